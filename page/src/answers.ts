@@ -12,9 +12,12 @@ export interface ReportEvent {
   none: boolean;
 }
 
-export interface Ticket {
+export interface Block {
   client: string;
   block: number;
+}
+
+export interface Ticket extends Block {
   done: boolean;
   trace: ReportEvent[];
   sync_counts?: { object: string; count: number }[];
@@ -39,6 +42,7 @@ export interface ClientVariables {
 export interface Report {
   order: Ticket[];
   states: State[];
+  /** The variables at the end; null where the run is not finished. */
   clients: ClientVariables[] | null;
   syncs: number;
   finished: boolean;
@@ -63,9 +67,24 @@ export interface Witness {
   clients: ClientVariables[];
 }
 
-export interface Question {
+/** The answer to a question, or to a claim of the script, which has a line. */
+export interface Verdict {
+  line?: number;
+  kind: string;
   yes: boolean;
   witness: Witness | null;
+  configurations: number;
+}
+
+/** A value that a sum has at so many ends, and an order that leads to one of these. */
+export interface SumValue {
+  value: Value;
+  ends: number;
+  order: string[];
+}
+
+export interface SumValues {
+  values: SumValue[];
   configurations: number;
 }
 
@@ -77,10 +96,19 @@ export interface Counts {
   weight: number;
 }
 
+/** What was refused, and what the program says of it: of a place in the script, with a line, or in a condition. */
 export interface Refusal {
   fault: string;
   line?: number;
+  /** From 1 on, in bytes. */
   column?: number;
+  /** In characters. */
+  length?: number;
+  cause?: string;
+  /** What stands beside the marks. */
+  label?: string;
+  /** One sentence on each line. */
+  help?: string;
 }
 
 /** JSON whose numbers of 16 and more digits become strings, since they may need 64 bits. */
@@ -92,13 +120,17 @@ function linesOf(text: string): string[] {
   return text === "" ? [] : text.replace(/\n$/, "").split("\n");
 }
 
+/** The objects of an answer, each of which has a line. */
+function objectsIn(text: string): unknown[] {
+  return parsed(`[${linesOf(text).join(",")}]`) as unknown[];
+}
+
 /** What was refused, or undefined if the answer is none of a refusal. */
 export function refusalIn(text: string): Refusal | undefined {
   const asJson = text.startsWith('{"refused":{"fault"');
-  if (asJson) return (parsed(text) as { refused: Refusal }).refused;
-  const found = /^refused: (.*?)(?: line (\d+))?\n$/.exec(text);
-  if (found === null) return undefined;
-  return { fault: found[1]!, ...(found[2] === undefined ? {} : { line: Number(found[2]) }) };
+  if (asJson) return (JSON.parse(text) as { refused: Refusal }).refused;
+  const fault = /^refused: (.*)\n$/.exec(text)?.[1];
+  return fault === undefined ? undefined : { fault };
 }
 
 export function countsIn(text: string): Counts {
@@ -110,14 +142,22 @@ export function reportIn(text: string): Report {
 }
 
 export function endsIn(text: string): Ends {
-  const lines = linesOf(text).map(parsed);
-  const last = lines.pop() as { configurations: number };
-  return { ends: lines as End[], configurations: last.configurations };
+  const objects = objectsIn(text);
+  const last = objects.pop() as { configurations: number };
+  return { ends: objects as End[], configurations: last.configurations };
 }
 
-export function questionIn(text: string): Question {
-  const { witness, configurations, ...rest } = parsed(text) as Omit<Question, "yes"> & Record<string, unknown>;
-  return { yes: Object.values(rest)[0] === true, witness, configurations };
+/** The answers to questions or to claims. */
+export function verdictsIn(text: string): Verdict[] {
+  return objectsIn(text).map((it) => {
+    const { line, witness, configurations, ...rest } = it as Omit<Verdict, "kind" | "yes">;
+    const [kind, yes] = Object.entries(rest)[0] as [string, boolean];
+    return { ...(line === undefined ? {} : { line }), kind, yes, witness, configurations };
+  });
+}
+
+export function valuesIn(text: string): SumValues {
+  return parsed(text) as SumValues;
 }
 
 /** How many configurations there are at most, or null for over 10^18. */
@@ -127,23 +167,35 @@ export function estimateIn(text: string): Value | null {
 
 // Steps and queues.
 
+/** A step of a client or of an object's handler, and what is needed to say what it does. */
 export interface Step {
-  number: number;
-  who: string;
-  what: string;
-  /** Whether a client stepped, and not a handler; unknown of a pick that had no step. */
-  byClient: boolean | undefined;
+  step: number;
+  client?: string;
+  object?: string;
+  does: string;
+  ticket?: Block;
+  objects?: string[];
+  request?: ReportEvent;
+  requests?: ReportEvent[];
+  /** The object of a client's step. */
+  at?: string;
+  /** The client of a handler's step. */
+  of?: string;
 }
 
-export interface QueuedTicket {
-  ticket: string;
-  /** By the plain rules, what is in the private queue: requests and `end`. */
-  items: string[];
+export interface Item {
+  item: "command" | "query" | "end";
+  request?: ReportEvent;
+}
+
+/** A block that waits for an object; by the plain rules with what is in its private queue. */
+export interface Reservation extends Block {
+  items?: Item[];
 }
 
 export interface Parcel {
-  kind: "work" | "sync" | "home" | "end";
-  requests: string[];
+  parcel: "chunk" | "sync" | "home" | "end";
+  requests?: ReportEvent[];
 }
 
 export interface Lane {
@@ -153,69 +205,50 @@ export interface Lane {
 
 export interface ObjectQueue {
   object: string;
-  tickets: QueuedTicket[];
-  lanes: Lane[];
+  reservations: Reservation[];
+  lanes?: Lane[];
 }
 
+/** What a client waits for. */
 export interface Standing {
   client: string;
-  what: string;
+  done: boolean;
+  waits: "nothing" | "reply" | "object" | "chunk" | "room";
+  at?: string;
 }
 
-export interface RunText {
+export interface Queues {
+  queues: ObjectQueue[];
+  clients: Standing[];
+}
+
+/** An answer with steps, a report and queues. */
+export interface Run {
   steps: Step[];
+  report: Report;
   queues: ObjectQueue[];
   standings: Standing[];
 }
 
-const CLIENT_STEP = /^(reserves|logs|asks|ends|sends|waits for|gets|returns|takes an empty chunk) /;
-
-function stepIn(line: string): Step {
-  const [number, who, ...rest] = line.split(" ");
-  const what = rest.join(" ");
-  return {
-    number: Number(number),
-    who: who!,
-    what,
-    byClient: what === "does nothing" ? undefined : CLIENT_STEP.test(what),
-  };
+export function runIn(text: string): Run {
+  const objects = objectsIn(text);
+  const { queues, clients } = objects.pop() as Queues;
+  const report = objects.pop() as Report;
+  return { steps: objects as Step[], report, queues, standings: clients };
 }
 
-function ticketIn(line: string): QueuedTicket {
-  const [, client, block, ...items] = line.split(" ");
-  return { ticket: `${client} ${block}`, items: items.filter((item) => item !== "-") };
+export function queuesIn(text: string): Queues {
+  return objectsIn(text).at(-1) as Queues;
 }
 
-function laneIn(line: string): Lane {
-  const [, client] = line.split(" ");
-  const parcels = line.slice(`lane ${client} `.length).match(/\[[^\]]*\]|\w+/g) ?? [];
-  const parcel = (text: string): Parcel =>
-    text.startsWith("[")
-      ? { kind: "work", requests: text.slice(1, -1).split(" ").filter(Boolean) }
-      : { kind: text as Parcel["kind"], requests: [] };
-  return { client: client!, parcels: parcels.map(parcel) };
+/** The steps before a report. */
+export function stepsIn(text: string): Step[] {
+  return objectsIn(text).slice(0, -1) as Step[];
 }
 
-function standingIn(line: string): Standing {
-  const [, client, ...what] = line.split(" ");
-  return { client: client!, what: what.join(" ") };
-}
-
-/** The steps before a report, and the queues behind it. */
-export function runTextIn(text: string): RunText {
-  const run: RunText = { steps: [], queues: [], standings: [] };
-  let isBehind = false;
-  for (const line of linesOf(text)) {
-    const word = line.slice(0, line.indexOf(" "));
-    if (line === "finished" || line === "unfinished") isBehind = true;
-    else if (/^\d+$/.test(word)) run.steps.push(stepIn(line));
-    else if (!isBehind) continue;
-    else if (word === "queue") run.queues.push({ object: line.split(" ")[1]!, tickets: [], lanes: [] });
-    else if (word === "ticket") run.queues.at(-1)!.tickets.push(ticketIn(line));
-    else if (word === "lane") run.queues.at(-1)!.lanes.push(laneIn(line));
-    else if (word === "client") run.standings.push(standingIn(line));
-  }
-  return run;
+/** The last of them, of which there has to be one. */
+export function lastStepIn(text: string): Step {
+  return parsed(linesOf(text).at(-2)!) as Step;
 }
 
 /** What the steps so far say of who has what. */
@@ -235,27 +268,25 @@ function put(sets: Map<string, Set<string>>, name: string, value: string, isIn: 
   sets.set(name, set);
 }
 
-function noteClient(holdings: Holdings, { who, what }: Step): void {
-  const words = what.split(" ");
-  if (words[0] === "gets") put(holdings.objects, who, words[1]!, true);
-  if (words[0] === "returns") put(holdings.objects, who, words[1]!, false);
-  if (words[0] === "takes") put(holdings.chunks, who, words[5]!, true);
-  if (words[0] === "sends") put(holdings.chunks, who, words[1]!.split(".")[0]!, false);
+function noteClient({ objects, chunks }: Holdings, client: string, { does, at, requests }: Step): void {
+  if (does === "gets") put(objects, client, at!, true);
+  if (does === "returns") put(objects, client, at!, false);
+  if (does === "takes") put(chunks, client, at!, true);
+  if (does === "sends") put(chunks, client, requests![0]!.object, false);
 }
 
-function noteHandler(holdings: Holdings, { who, what }: Step): void {
-  const words = what.split(" ");
-  if (words[0] === "serves") holdings.handlers.set(who, `serves ${words[2]} ${words[3]}`);
-  if (what.startsWith("gives itself to ")) holdings.handlers.set(who, `is with ${words[3]}`);
-  if (what.startsWith("comes back from ")) holdings.handlers.set(who, `serves ${words[3]} again`);
-  if (words[0] === "leaves") holdings.handlers.delete(who);
+function noteHandler({ handlers }: Holdings, object: string, { does, ticket, of }: Step): void {
+  if (does === "serves") handlers.set(object, `serves ${ticket!.client} ${ticket!.block}`);
+  if (does === "gives_itself") handlers.set(object, `is with ${of}`);
+  if (does === "comes_back") handlers.set(object, `serves ${of} again`);
+  if (does === "leaves") handlers.delete(object);
 }
 
 export function holdingsOf(steps: Step[]): Holdings {
   const holdings: Holdings = { objects: new Map(), chunks: new Map(), handlers: new Map() };
   for (const step of steps) {
-    if (step.byClient === true) noteClient(holdings, step);
-    if (step.byClient === false) noteHandler(holdings, step);
+    if (step.client !== undefined) noteClient(holdings, step.client, step);
+    if (step.object !== undefined) noteHandler(holdings, step.object, step);
   }
   return holdings;
 }
@@ -321,4 +352,42 @@ export function stateText(state: State): string {
   if (state.kind === "account") return `account ${state.balance} refused ${state.refused}`;
   if (state.kind === "buffer") return `buffer ${state.capacity} ${values} refused ${state.refused}`;
   return `grid ${state.rows} ${state.columns} ${values} refused ${state.refused}`;
+}
+
+/** What a step does, without who. */
+export function stepWords({ does, ticket, objects, request, requests, at, of }: Step): string {
+  const block = ticket && `ticket ${ticket.client} ${ticket.block}`;
+  const asked = (request === undefined ? requests : [request])?.map(eventText).join(" ");
+  switch (does) {
+    case "nothing":
+      return "does nothing";
+    case "reserves":
+      return `reserves ${objects?.join(" ")} (${block})`;
+    case "ends":
+      return at === undefined ? `ends ${block}` : `ends ${block} at ${at}`;
+    case "runs":
+    case "answers":
+      return `${does} ${asked} of ${block}`;
+    case "takes":
+      return `takes an empty chunk of ${at}`;
+    case "waits":
+      return `waits for ${at}`;
+    case "gives_chunk":
+      return `gives an empty chunk to ${of}`;
+    case "sees":
+      return `sees that ${of} waits`;
+    case "gives_itself":
+      return `gives itself to ${of}`;
+    case "comes_back":
+      return `comes back from ${of}`;
+    default:
+      // It logs, asks, sends, gets, returns, serves or leaves.
+      return `${does} ${asked ?? at ?? block}`;
+  }
+}
+
+export function standingWords({ done, waits, at }: Standing): string {
+  const chunk = `an empty chunk of ${at}`;
+  const what = { nothing: "nothing", reply: "a reply", object: at, chunk, room: `room to ${at}` };
+  return done ? "is done" : `waits for ${what[waits]}`;
 }

@@ -46,7 +46,7 @@ export class Compare {
   /** The order of a whole run. */
   private async wholeOrder(script: string): Promise<string[]> {
     const { text } = await this.ask("play", script, "--format", "json");
-    return refusalIn(text) === undefined ? orderOf(reportIn(text), this.names) : [];
+    return refusalIn(text) === undefined ? orderOf(reportIn(text).order, this.names) : [];
   }
 
   private refusedOrder(fault: string): string {
@@ -63,7 +63,8 @@ export class Compare {
     const tickets = reports[0]!.order;
     const rows = tickets.flatMap((ticket, index) => this.rows(ticket, reports.map((it) => it.order[index]!)));
     const more = rows.length - MOST_ROWS;
-    const totals = reports.map(({ syncs }) => element("td", {}, syncs));
+    const most = reports[0]!.syncs;
+    const totals = reports.map(({ syncs }) => element("td", { class: syncs < most ? "fewer" : undefined }, syncs));
     const foot = element("tr", {}, element("th", { scope: "row", colspan: 2 }, "All blocks"), ...totals);
     const table = element(
       "table",

@@ -3,12 +3,15 @@ import {
   type Holdings,
   type Lane,
   type Parcel,
-  type QueuedTicket,
+  type Reservation,
+  type Standing,
   type State,
   type Step,
   type Ticket,
   eventText,
   holdingsOf,
+  standingWords,
+  stepWords,
 } from "./answers";
 import { counted, element } from "./element";
 import type { Names, Shown } from "./session";
@@ -28,8 +31,8 @@ export function clientName(names: Names, client: string, text = client): HTMLEle
   return element("span", { class: `client k${names.clients.indexOf(client)}` }, text);
 }
 
-function ticketName(names: Names, ticket: string): HTMLElement {
-  return clientName(names, ticket.split(" ")[0]!, ticket);
+function blockName(names: Names, client: string, block: number): HTMLElement {
+  return clientName(names, client, `${client} ${block}`);
 }
 
 function list(items: Iterable<string>): string {
@@ -58,14 +61,15 @@ function openBlock(shown: Shown, client: string, scene: Scene): HTMLElement | nu
   return fact("In block", "open", ticket, " ", where || "");
 }
 
-function clientCard(shown: Shown, client: string, holdings: Holdings, scene: Scene): HTMLElement {
-  const standing = shown.standings.find((it) => it.client === client)?.what ?? "is done";
+function clientCard(shown: Shown, standing: Standing, holdings: Holdings, scene: Scene): HTMLElement {
+  const { client } = standing;
+  const waits = element("span", { class: "standing" }, standingWords(standing));
   const held = holdings.objects.get(client) ?? [];
   const chunks = holdings.chunks.get(client) ?? [];
   return element(
     "article",
     { class: `card client-card k${scene.names.clients.indexOf(client)}`, "data-client": client },
-    element("h4", {}, clientName(scene.names, client), " ", element("span", { class: "standing" }, standing)),
+    element("h4", {}, clientName(scene.names, client), " ", waits),
     element(
       "dl",
       {},
@@ -100,31 +104,34 @@ function stateOf(state: State): HTMLElement {
   return element("span", { class: "balance" }, state.balance);
 }
 
-function queued(names: Names, { ticket, items }: QueuedTicket): HTMLElement {
-  const drawn = items.map((item) => element("span", { class: item === "end" ? "item end" : "item" }, item));
-  return element("li", { class: "queued" }, ticketName(names, ticket), ...drawn.flatMap((it) => [" ", it]));
+function queued(names: Names, { client, block, items = [] }: Reservation): HTMLElement {
+  const drawn = items.map(({ item, request }) =>
+    element("span", { class: request === undefined ? "item end" : "item" }, request ? eventText(request) : item),
+  );
+  return element("li", { class: "queued" }, blockName(names, client, block), ...drawn.flatMap((it) => [" ", it]));
 }
 
-function parcel({ kind, requests }: Parcel): HTMLElement {
-  const drawn = requests.map((request) => element("span", { class: "item" }, request));
-  if (kind !== "work") return element("span", { class: `parcel ${kind}` }, kind);
+function parcelBox({ parcel, requests }: Parcel): HTMLElement {
+  if (requests === undefined) return element("span", { class: `parcel ${parcel}` }, parcel);
+  const drawn = requests.map((request) => element("span", { class: "item" }, eventText(request)));
   return element("span", { class: "parcel work", title: "a chunk" }, ...drawn.flatMap((it) => [it, " "]));
 }
 
-function lane(names: Names, { client, parcels }: Lane): HTMLElement {
-  const drawn = parcels.flatMap((it) => [" ", parcel(it)]);
+function laneItem(names: Names, { client, parcels }: Lane): HTMLElement {
+  const drawn = parcels.flatMap((it) => [" ", parcelBox(it)]);
   return element("li", { class: "lane", "data-client": client }, "lane of ", clientName(names, client), ":", ...drawn);
 }
 
 function journalOf(shown: Shown, object: string, names: Names): HTMLElement {
-  const ran = shown.report.order.flatMap((ticket) =>
-    ticket.trace
+  const ran = shown.report.order.flatMap(({ client, block, trace }) =>
+    trace
       .filter((event) => event.object === object && event.refused !== null)
-      .map((event) => ({ ticket: `${ticket.client} ${ticket.block}`, text: eventText(event) })),
+      .map((event) => ({ client, block, event })),
   );
-  const items = ran.slice(-MOST_DRAWN).map(({ ticket, text }) =>
-    element("li", {}, ticketName(names, ticket), " ", element("code", {}, text.slice(object.length + 1))),
-  );
+  const items = ran.slice(-MOST_DRAWN).map(({ client, block, event }) => {
+    const code = element("code", {}, eventText(event).slice(object.length + 1));
+    return element("li", {}, blockName(names, client, block), " ", code);
+  });
   const head = `Journal: ${ran.length} run`;
   const earlier = ran.length > items.length && element("p", { class: "note" }, `The last ${items.length}:`);
   const content = items.length > 0 && element("ol", { class: "journal" }, ...items);
@@ -136,7 +143,8 @@ function objectCard(shown: Shown, state: State, holdings: Holdings, { names }: S
   const queue = shown.queues.find(({ object }) => object === state.object);
   const doing = holdings.handlers.get(state.object);
   const kind = `${state.kind}${state.capacity === undefined ? "" : ` of ${state.capacity}`}`;
-  const tickets = queue?.tickets.map((it) => queued(names, it)) ?? [];
+  const tickets = queue?.reservations.map((it) => queued(names, it)) ?? [];
+  const lanes = queue?.lanes?.filter(({ parcels }) => parcels.length > 0) ?? [];
   return element(
     "article",
     { class: "card object-card", "data-object": state.object },
@@ -149,7 +157,7 @@ function objectCard(shown: Shown, state: State, holdings: Holdings, { names }: S
       doing !== undefined && fact("Handler", "doing", doing),
     ),
     element("p", { class: "note" }, tickets.length === 0 ? "No block waits here." : "Its queue, the first one first:"),
-    element("ol", { class: "queue" }, ...tickets, ...(queue?.lanes.map((it) => lane(names, it)) ?? [])),
+    element("ol", { class: "queue" }, ...tickets, ...lanes.map((it) => laneItem(names, it))),
     journalOf(shown, state.object, names),
   );
 }
@@ -157,7 +165,7 @@ function objectCard(shown: Shown, state: State, holdings: Holdings, { names }: S
 /** All clients, and all objects with their handlers. */
 export function drawState(shown: Shown, scene: Scene): HTMLElement[] {
   const holdings = holdingsOf(shown.steps);
-  const clients = scene.names.clients.map((client) => clientCard(shown, client, holdings, scene));
+  const clients = shown.standings.map((standing) => clientCard(shown, standing, holdings, scene));
   const objects = shown.report.states.map((state) => objectCard(shown, state, holdings, scene));
   return [
     element("section", { "aria-label": "Clients" }, element("h3", {}, "Clients"), ...clients),
@@ -166,7 +174,7 @@ export function drawState(shown: Shown, scene: Scene): HTMLElement[] {
 }
 
 function ticketItem(ticket: Ticket, names: Names): HTMLElement {
-  const name = `${ticket.client} ${ticket.block}`;
+  const { client, block } = ticket;
   const events = ticket.trace.slice(-MOST_DRAWN).map((event) => {
     const mark = event.refused === true ? "refused" : event.none ? "none" : event.refused === null ? "waiting" : "ran";
     return element("li", { class: mark }, element("code", {}, eventText(event)));
@@ -176,8 +184,8 @@ function ticketItem(ticket: Ticket, names: Names): HTMLElement {
   const earlier = ticket.trace.length > events.length && element("p", { class: "note" }, last);
   return element(
     "li",
-    { class: "ticket", "data-ticket": name },
-    ticketName(names, name),
+    { class: "ticket", "data-ticket": `${client} ${block}` },
+    blockName(names, client, block),
     " ",
     element("span", { class: "done" }, ticket.done ? "done" : "open"),
     syncs.length > 0 && element("span", { class: "syncs", title: "Synchronisations" }, ` syncs: ${list(syncs)}`),
@@ -199,10 +207,14 @@ export function drawOrder({ report }: Shown, names: Names): HTMLElement[] {
   ];
 }
 
-/** A step as a sentence, its actor in its colour. */
+/** Who steps: a client in its colour, or the object whose handler does. */
+export function actorName({ client, object = "" }: Step, names: Names): HTMLElement {
+  return client === undefined ? element("b", {}, object) : clientName(names, client);
+}
+
+/** A step as a sentence. */
 export function stepText(step: Step, names: Names): HTMLElement {
-  const who = step.byClient === true ? clientName(names, step.who) : element("b", {}, step.who);
-  return element("span", { class: "step-text" }, who, ` ${step.what}`);
+  return element("span", { class: "step-text" }, actorName(step, names), ` ${stepWords(step)}`);
 }
 
 /** The steps so far, the last one first. */

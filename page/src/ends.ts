@@ -2,29 +2,37 @@
 import {
   type ClientVariables,
   type End,
+  type Refusal,
   type State,
   type Witness,
   endsIn,
   estimateIn,
-  questionIn,
   refusalIn,
   stateText,
+  valuesIn,
+  verdictsIn,
 } from "./answers";
 import { Chart } from "./chart";
 import { clientName } from "./drawing";
 import { byId, counted, element, fill } from "./element";
 import { type Executor, Stopped } from "./executor";
+import { sentenceOf, toldQuestion } from "./faults";
+import { MANY, isOverLimit, limit, overLimit } from "./search";
 import type { Names } from "./session";
+import { drawValues } from "./values";
 
 const MOST_SHOWN = 200;
 const MOST_CHARTED = 200;
-// A search through more configurations leaves a worker with much memory.
-const MANY = 50_000;
+
+const OF_SUMS = "a sum adds up numbers, variables and queries, as in `a.balance() + ann.x - 3`";
+
+type Draw = (answer: string) => Node[];
 
 export class Ends {
   private script: string | undefined;
   private names: Names = { clients: [], objects: [] };
   private isCurrent = false;
+  private running = 0;
   private readonly chart: Chart;
 
   constructor(
@@ -34,9 +42,21 @@ export class Ends {
     this.chart = new Chart(byId("chart"), playOrder);
     byId("find").addEventListener("click", () => void this.find());
     byId("stop").addEventListener("click", () => this.executor.stop());
-    byId("ask").addEventListener("submit", (event) => {
+    this.onSubmit("ask", () => this.question());
+    this.onSubmit("ask-values", () => this.values());
+    this.onInput(["kind", "condition"], "answer");
+    this.onInput(["sum"], "values");
+  }
+
+  /** Where the question is written anew, the answer below it is of the one before. */
+  private onInput(fields: string[], id: string): void {
+    for (const field of fields) byId(field).addEventListener("input", () => byId(id).classList.add("before"));
+  }
+
+  private onSubmit(id: string, act: () => Promise<void>): void {
+    byId(id).addEventListener("submit", (event) => {
       event.preventDefault();
-      void this.question();
+      void act();
     });
   }
 
@@ -47,7 +67,7 @@ export class Ends {
     this.names = names;
     this.isCurrent = false;
     this.executor.stop();
-    for (const id of ["ends", "chart", "answer"]) fill(byId(id));
+    for (const id of ["ends", "chart", "answer", "values"]) fill(byId(id));
     byId("found").textContent = "";
   }
 
@@ -56,19 +76,15 @@ export class Ends {
     if (!this.isCurrent) await this.find();
   }
 
-  private limit(): string {
-    return String(Math.max(1, Math.round(Number(byId<HTMLInputElement>("limit").value)) || 1_000_000));
-  }
-
   private async find(): Promise<void> {
     const script = this.script;
     if (script === undefined) return;
     this.isCurrent = true;
     await this.guarded("found", async () => {
       const began = performance.now();
-      const { text } = await this.executor.ask("outcomes", script, "--limit", this.limit(), "--format", "json");
+      const { text } = await this.executor.ask("outcomes", script, "--limit", limit(), "--format", "json");
       const refusal = refusalIn(text);
-      if (refusal !== undefined) return this.tellRefused(script, refusal.fault);
+      if (refusal !== undefined) return this.tellRefused(script, refusal);
       const { ends, configurations } = endsIn(text);
       this.drawEnds(ends, configurations, performance.now() - began);
       if (configurations > MANY) this.executor.end();
@@ -79,24 +95,25 @@ export class Ends {
   /** Runs a search with the button that stops it, and says what came in between. */
   private async guarded(id: string, act: () => Promise<void>): Promise<void> {
     byId<HTMLButtonElement>("stop").disabled = false;
+    this.running++;
     byId(id).textContent = "Searching ..";
     try {
       await act();
     } catch (error) {
       byId(id).textContent = error instanceof Stopped ? "The search was stopped." : String(error);
     }
-    byId<HTMLButtonElement>("stop").disabled = true;
+    this.running--;
+    byId<HTMLButtonElement>("stop").disabled = this.running === 0;
   }
 
-  private async tellRefused(script: string, fault: string): Promise<void> {
-    if (fault !== "outcomes 2 Limit") {
-      byId("found").textContent = `Refused: ${fault}`;
+  private async tellRefused(script: string, refusal: Refusal): Promise<void> {
+    if (!isOverLimit(refusal)) {
+      byId("found").textContent = sentenceOf(refusal);
       return;
     }
     const estimate = await this.executor.ask("estimate", script, "--format", "json");
     const most = estimateIn(estimate.text) ?? "over 10^18";
-    const limit = this.limit();
-    byId("found").textContent = `There are more than ${limit} configurations, the limit; at most there are ${most}.`;
+    byId("found").textContent = `There are more than ${limit()} configurations, the limit; at most there are ${most}.`;
     fill(byId("ends"));
     fill(byId("chart"));
   }
@@ -156,39 +173,53 @@ export class Ends {
   }
 
   private async question(): Promise<void> {
-    const script = this.script;
-    const condition = byId<HTMLInputElement>("condition").value.trim();
     const kind = byId<HTMLSelectElement>("kind").value;
-    if (script === undefined || condition === "") return;
-    await this.guarded("answer", async () => {
-      const words = [`--${kind}=${condition.replace(/\n/g, " ")}`, "--limit", this.limit(), "--format", "json"];
+    await this.ask("answer", kind, byId<HTMLInputElement>("condition").value, (text) => this.drawAnswer(text));
+  }
+
+  private async values(): Promise<void> {
+    const draw = (text: string) => drawValues(valuesIn(text), this.playOrder);
+    await this.ask("values", "values", byId<HTMLInputElement>("sum").value, draw);
+  }
+
+  /** Asks a question by a setting of `ask`, and shows at its place what is drawn of the answer. */
+  private async ask(id: string, setting: string, written: string, draw: Draw): Promise<void> {
+    const script = this.script;
+    const question = written.trim().replace(/\n/g, " ");
+    if (script === undefined || question === "") return;
+    byId(id).classList.remove("before");
+    await this.guarded(id, async () => {
+      const words = [`--${setting}=${question}`, "--limit", limit(), "--format", "json"];
       const { text } = await this.executor.ask("ask", script, ...words);
       const refusal = refusalIn(text);
-      if (refusal === undefined) this.drawAnswer(kind, text);
-      else byId("answer").textContent = this.refusedQuestion(refusal.fault);
+      if (refusal === undefined) fill(byId(id), ...draw(text));
+      else if (isOverLimit(refusal)) fill(byId(id), overLimit());
+      else fill(byId(id), ...toldQuestion(await this.explained(refusal, setting, question), question));
     });
   }
 
-  private refusedQuestion(fault: string): string {
-    const limit = this.limit();
-    if (fault === "outcomes 2 Limit") return `The search looks at more than ${limit} configurations, the limit.`;
-    const { clients, objects } = this.names;
-    const named = `Clients: ${clients.join(", ")}; objects: ${objects.join(", ")}.`;
-    return `The condition does not read, or names what the script does not have. ${named}`;
+  /** A refusal with its cause. Of a condition that cannot be parsed the program tells it where that is a claim. */
+  private async explained(refusal: Refusal, setting: string, question: string): Promise<Refusal> {
+    if (refusal.cause !== undefined) return refusal;
+    if (setting === "values") return { ...refusal, cause: "the sum cannot be parsed", help: OF_SUMS };
+    const head = `#? ${setting} `;
+    const { text } = await this.executor.ask("ask", head + question, "--format", "json");
+    const { column, ...told } = refusalIn(text) ?? refusal;
+    return column === undefined ? told : { ...told, column: column - head.length };
   }
 
-  private drawAnswer(kind: string, text: string): void {
-    const { yes, witness, configurations } = questionIn(text);
+  private drawAnswer(text: string): HTMLElement[] {
+    const { kind, yes, witness, configurations } = verdictsIn(text)[0]!;
     const looked = `${counted(configurations, "configuration")} looked at`;
     const head = element("p", { class: "verdict" }, element("b", {}, `${kind} ${yes ? "yes" : "no"}`), `, ${looked}`);
     const holds = ["some", "ever", "never"].includes(kind);
-    fill(byId("answer"), head, witness !== null && this.witness(witness, holds));
+    return witness === null ? [head] : [head, this.witness(witness, holds)];
   }
 
   private witness({ order, after, states, clients }: Witness, holds: boolean): HTMLElement {
     const blocks = order ?? after ?? [];
     const what = after === undefined ? "An end" : "A configuration";
-    const head = `${what} of which it ${holds ? "holds" : "does not hold"}`;
+    const head = `${what} where it ${holds ? "holds" : "does not hold"}`;
     return element(
       "div",
       { class: "card witness" },

@@ -1,11 +1,12 @@
 // The page: a script is written on one side; on the other it is stepped, asked about and compared.
 import { isSupported } from "../../bindings/wasm/qs.mjs";
+import { Claims } from "./claims";
 import { Compare } from "./compare";
 import { Editor } from "./editor";
 import { byId, counted, element, fill } from "./element";
 import { Ends } from "./ends";
 import { Executor } from "./executor";
-import { type Checked, check } from "./faults";
+import { type Checked, check, toldFault } from "./faults";
 import { fragmentOf, fromBase64, scriptIn, unzipped } from "./link";
 import { Stepping } from "./stepping";
 import { startTabs } from "./tabs";
@@ -36,9 +37,12 @@ class Page {
   private readonly quick: Executor;
   private readonly stepping: Stepping;
   private readonly ends: Ends;
+  private readonly claims: Claims;
   private readonly comparison: Compare;
   private readonly show: (id: string) => void;
   private example: Example | undefined;
+  /** The last script that was no example, so that it is there again. */
+  private own: string | undefined;
   private accepted: string | undefined;
   private part: string = PARTS[0];
   private timer = 0;
@@ -49,13 +53,14 @@ class Page {
     this.quick = new Executor(module, worker);
     const play = (order: readonly string[]) => void this.play(order);
     this.ends = new Ends(new Executor(module, worker), play);
+    this.claims = new Claims(new Executor(module, worker), this.editor, play);
     this.comparison = new Compare(this.quick.ask);
     this.stepping = new Stepping(
       this.quick.ask,
       (line) => this.editor.showLine(line),
       (shown, { names }) => {
         this.ends.begin(this.accepted, names);
-        this.comparison.begin(this.accepted, names, orderOf(shown.report, names));
+        this.comparison.begin(this.accepted, names, orderOf(shown.report.order, names));
       },
     );
     this.show = startTabs(PARTS, (id) => this.shown(id));
@@ -84,7 +89,10 @@ class Page {
 
   private openExample(path: string): void {
     const example = this.examples.find(({ subject, name }) => `${subject}/${name}` === path);
-    if (example === undefined) return;
+    if (example === undefined) {
+      if (this.own !== undefined) this.editor.script = this.own;
+      return;
+    }
     this.example = example;
     this.editor.script = example.script;
     byId<HTMLSelectElement>("example").value = path;
@@ -117,7 +125,9 @@ class Page {
   }
 
   private changed(): void {
+    this.claims.clear();
     if (this.editor.script !== this.example?.script) {
+      this.own = this.editor.script;
       byId<HTMLSelectElement>("example").value = "";
       byId("sentence").textContent = "";
     }
@@ -137,6 +147,7 @@ class Page {
     byId("parts").classList.toggle("is-refused", checked.fault !== undefined);
     byId("parts").inert = checked.fault !== undefined;
     await this.stepping.begin(this.accepted);
+    if (this.accepted === this.editor.script) this.claims.begin(this.accepted);
     if (this.part !== PARTS[0]) this.shown(this.part);
     byId("parts").dataset["turn"] = String(turn);
   }
@@ -145,10 +156,7 @@ class Page {
     const place = byId("verdict");
     place.classList.toggle("refused", fault !== undefined);
     if (fault !== undefined) {
-      const go = () => this.editor.goTo(fault);
-      const line = fault.from === undefined ? "" : `Line ${this.editor.script.slice(0, fault.from).split("\n").length}`;
-      const link = line !== "" && element("button", { class: "link", onclick: go }, line);
-      fill(place, link, link && ": ", fault.message);
+      fill(place, ...toldFault(fault, (it) => this.editor.goTo(it)));
     } else if (counts !== undefined) {
       const { objects, clients, blocks, load } = counts;
       const things = [counted(objects, "object"), counted(clients, "client"), counted(blocks, "block")];

@@ -1,13 +1,16 @@
 // One script stepped by one machine. Every state is what the program answers for the picks that led to it.
 import {
+  type Block,
   type ClientVariables,
   type Report,
-  type RunText,
+  type Run,
   type Step,
-  questionIn,
+  lastStepIn,
+  queuesIn,
   refusalIn,
-  reportIn,
-  runTextIn,
+  runIn,
+  stepsIn,
+  verdictsIn,
 } from "./answers";
 import type { Answer, Ask } from "./executor";
 import { sentenceOf } from "./faults";
@@ -19,18 +22,16 @@ export interface Machine {
 }
 
 /** A state, and the steps that led to it. */
-export interface Shown extends RunText {
+export interface Shown extends Run {
   picks: readonly string[];
-  report: Report;
-  /** The variables after the blocks that are done. */
+  /** The variables at the end, or else after the blocks that are done. */
   variables: ClientVariables[];
 }
 
-/** Somebody who has a step, as `c0` or `h1`, with its name and what the step would do. */
+/** Somebody who has a step, as `c0` or `h1`, and what the step would be. */
 export interface Choice {
   actor: string;
-  name: string;
-  what: string;
+  step: Step;
 }
 
 /** The names of a script's clients and objects, in text order. */
@@ -50,9 +51,14 @@ function answered({ text }: Answer): string {
   return text;
 }
 
-/** The clients of an order of tickets, as `c0`. */
-export function orderOf(report: Report, names: Names, isIn = (_done: boolean): boolean => true): string[] {
-  return report.order.filter(({ done }) => isIn(done)).map(({ client }) => `c${names.clients.indexOf(client)}`);
+/** The clients of an order of blocks, as `c0`. */
+export function orderOf(order: readonly Block[], names: Names): string[] {
+  return order.map(({ client }) => `c${names.clients.indexOf(client)}`);
+}
+
+/** The words of a line that plays picks, and then rounds. */
+function schedule(picks: readonly string[], rounds = 0): string[] {
+  return [...(picks.length === 0 ? [] : ["--pick", picks.join(",")]), "--rounds", String(rounds)];
 }
 
 export class Session {
@@ -64,41 +70,31 @@ export class Session {
   ) {}
 
   static async begin(ask: Ask, script: string, machine: Machine): Promise<Session> {
-    const report = reportIn(answered(await ask("rules", script, "--rounds", "0", "--format", "json")));
-    const objects = report.states.map(({ object }) => object);
-    const { text } = await ask("rules", script, "--rounds", "0", "--queues");
-    const named = report.clients ?? runTextIn(text).standings;
-    return new Session(ask, script, machine, { objects, clients: named.map(({ client }) => client) });
+    const text = answered(await ask("rules", script, "--rounds", "0", "--queues", "--format", "json"));
+    const { queues, clients } = queuesIn(text);
+    const objects = queues.map(({ object }) => object);
+    return new Session(ask, script, machine, { objects, clients: clients.map(({ client }) => client) });
   }
 
-  /** The words of the line that plays picks and then rounds. */
-  words(picks: readonly string[], rounds: number): string[] {
+  /** The steps of the words of a schedule, the report, and whatever more is asked for. */
+  private async play(...words: string[]): Promise<string> {
     const { word, mode, chunk } = this.machine;
     const settings = word === "rules" ? [] : ["--mode", mode, "--chunk", String(chunk)];
-    const list = picks.length === 0 ? [] : ["--pick", picks.join(",")];
-    return [...settings, ...list, "--rounds", String(rounds)];
-  }
-
-  private async play(picks: readonly string[], rounds: number, ...more: string[]): Promise<string> {
-    return answered(await this.ask(this.machine.word, this.script, ...this.words(picks, rounds), ...more));
+    return answered(await this.ask(word, this.script, ...settings, ...words, "--steps", "--format", "json"));
   }
 
   /** The state after picks. */
   async look(picks: readonly string[]): Promise<Shown> {
-    const [text, json] = await Promise.all([
-      this.play(picks, 0, "--steps", "--queues"),
-      this.play(picks, 0, "--counts", "--format", "json"),
-    ]);
-    const report = reportIn(json);
-    const variables = report.clients ?? (await this.variablesAfter(orderOf(report, this.names, (done) => done)));
-    return { picks, report, variables, ...runTextIn(text) };
+    const run = runIn(await this.play(...schedule(picks), "--counts", "--queues"));
+    return { picks, ...run, variables: run.report.clients ?? (await this.variablesAfterDone(run.report)) };
   }
 
-  /** The variables after whole blocks: the witness of what is never so, from there on. */
-  private async variablesAfter(order: string[]): Promise<ClientVariables[]> {
-    const after = order.length === 0 ? [] : ["--after", order.join(",")];
+  /** The variables after the blocks that are done: the witness of what is never so, from there on. */
+  private async variablesAfterDone({ order }: Report): Promise<ClientVariables[]> {
+    const done = orderOf(order.filter((it) => it.done), this.names);
+    const after = done.length === 0 ? [] : ["--after", done.join(",")];
     const { text } = await this.ask("ask", this.script, ...after, "--throughout", "0 == 1", "--format", "json");
-    return refusalIn(text) === undefined ? questionIn(text).witness?.clients ?? [] : [];
+    return refusalIn(text) === undefined ? verdictsIn(text)[0]?.witness?.clients ?? [] : [];
   }
 
   /** Who has a step after picks, and what it would do: each actor is picked once more, and the program says it. */
@@ -107,72 +103,30 @@ export class Session {
     const { clients, objects } = this.names;
     const actors = [...clients.keys()].map((it) => `c${it}`).concat([...objects.keys()].map((it) => `h${it}`));
     const tried = await Promise.all(actors.map((actor) => this.stepOf(shown.picks, actor)));
-    return tried.flatMap((step, index) =>
-      step === undefined || step.byClient === undefined
-        ? []
-        : [{ actor: actors[index]!, name: step.who, what: step.what }],
-    );
+    return tried.flatMap((step, index) => (step.does === "nothing" ? [] : [{ actor: actors[index]!, step }]));
   }
 
-  private async stepOf(picks: readonly string[], actor: string): Promise<Step | undefined> {
-    return runTextIn(await this.play([...picks, actor], 0, "--steps")).steps.at(-1);
+  private async stepOf(picks: readonly string[], actor: string): Promise<Step> {
+    return lastStepIn(await this.play(...schedule([...picks, actor])));
   }
 
   /** The picks to the end, or as many as are asked for at once. */
   async toEnd(picks: readonly string[]): Promise<string[]> {
     const actors = Math.max(this.names.clients.length + this.names.objects.length, 1);
-    return this.stepped(await this.play(picks, Math.ceil(MOST_STEPS / actors), "--steps"));
+    return this.picksFor(stepsIn(await this.play(...schedule(picks, Math.ceil(MOST_STEPS / actors)))));
   }
 
-  /** The picks for the steps of an answer that changed something. */
-  private stepped(text: string): string[] {
-    return runTextIn(text).steps.flatMap((step) => this.actorOf(step) ?? []);
+  /** The picks for those of some steps that changed something. */
+  private picksFor(steps: readonly Step[]): string[] {
+    const { clients, objects } = this.names;
+    const pick = ({ client, object = "" }: Step) =>
+      client === undefined ? `h${objects.indexOf(object)}` : `c${clients.indexOf(client)}`;
+    return steps.filter(({ does }) => does !== "nothing").map(pick);
   }
 
-  private actorOf({ who, byClient }: Step): string | undefined {
-    if (byClient === undefined) return undefined;
-    return byClient ? `c${this.names.clients.indexOf(who)}` : `h${this.names.objects.indexOf(who)}`;
-  }
-
-  /** The picks that play whole blocks in an order, each to its end, as `--order` does. */
+  /** The picks that play whole blocks in an order. */
   async picksOf(order: readonly string[]): Promise<string[]> {
-    const begun = new Map<string, number>();
-    let picks: string[] = [];
-    for (const client of order) {
-      const block = begun.get(client) ?? 0;
-      begun.set(client, block + 1);
-      picks = await this.playBlock(picks, client, block);
-    }
-    return picks;
-  }
-
-  /** Picks a client and the handlers in turn until its block has ended, and then the handlers until none has a step. */
-  private async playBlock(picks: string[], client: string, block: number): Promise<string[]> {
-    const handlers = this.names.objects.map((_, index) => `h${index}`);
-    const ticket = `ticket ${this.names.clients[Number(client.slice(1))]} ${block}`;
-    let ended = undefined as string[] | undefined;
-    for (let turns = 16; ended === undefined && turns < 2_000_000; turns *= 4) {
-      const asked = picks.concat(...Array.from({ length: turns }, () => [client, ...handlers]));
-      ended = this.untilEnd(await this.play(asked, 0, "--steps"), ticket);
-    }
-    if (ended === undefined) throw new Error(`${ticket} does not end`);
-    for (let turns = 4; ; turns *= 4) {
-      const asked = ended.concat(...Array.from({ length: turns }, () => handlers));
-      const { steps } = runTextIn(await this.play(asked, 0, "--steps"));
-      const isStill = steps.slice(-handlers.length).every(({ byClient }) => byClient === undefined);
-      if (isStill) return steps.flatMap((step) => this.actorOf(step) ?? []);
-    }
-  }
-
-  /** The picks up to the step that ends a ticket's block, or undefined if it has not ended. */
-  private untilEnd(text: string, ticket: string): string[] | undefined {
-    const { steps } = runTextIn(text);
-    const reserved = steps.find(({ what }) => what.startsWith("reserves ") && what.endsWith(`(${ticket})`));
-    const parts = this.machine.word === "rules" ? 1 : (reserved?.what.split(" (")[0]!.split(" ").length ?? 1) - 1;
-    const ends = steps.flatMap(({ what }, index) =>
-      what === `ends ${ticket}` || what.startsWith(`ends ${ticket} at `) ? [index] : [],
-    );
-    if (ends.length < parts) return undefined;
-    return steps.slice(0, ends[parts - 1]! + 1).flatMap((step) => this.actorOf(step) ?? []);
+    if (order.length === 0) return [];
+    return this.picksFor(stepsIn(await this.play("--order", order.join(","))));
   }
 }

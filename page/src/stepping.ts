@@ -1,6 +1,6 @@
 // The part of the page in which a script is stepped.
-import { type Step, blockLinesIn } from "./answers";
-import { type Scene, clientName, drawOrder, drawState, drawSteps, stepText } from "./drawing";
+import { type Step, blockLinesIn, stepWords } from "./answers";
+import { type Scene, actorName, drawOrder, drawState, drawSteps, stepText } from "./drawing";
 import { byId, element, fill } from "./element";
 import { type Ask, Stopped } from "./executor";
 import { type Choice, type Machine, Session, type Shown } from "./session";
@@ -61,7 +61,6 @@ export class Stepping {
     this.scene = { names: session.names, lines: blockLinesIn(graph.text), showLine: this.showLine };
     await this.take([], 0);
   }
-
 
   private machine(): Machine {
     const value = (id: string) => byId<HTMLInputElement>(id).value;
@@ -165,7 +164,7 @@ export class Stepping {
   private sentence({ report }: Shown, last: Step | undefined): (Node | string)[] {
     const end = report.finished ? " The run is finished." : "";
     if (last === undefined) return [`Nobody has stepped yet.${end}`];
-    return [`Step ${last.number}: `, stepText(last, this.scene.names), `.${end}`];
+    return [`Step ${last.step}: `, stepText(last, this.scene.names), `.${end}`];
   }
 
   private drawChoices(choices: Choice[], { report }: Shown): void {
@@ -179,14 +178,12 @@ export class Stepping {
     }
   }
 
-  private choiceButton({ actor, name, what }: Choice, isNext: boolean): HTMLButtonElement {
-    const isClient = actor.startsWith("c");
-    const who = isClient ? clientName(this.scene.names, name) : element("b", {}, name);
+  private choiceButton({ actor, step }: Choice, isNext: boolean): HTMLButtonElement {
     const turn = this.turn;
     // A button says what its actor would do now; one that is pressed while another step is on its way does nothing.
-    const step = () => turn === this.turn && void this.guarded(() => this.step(actor));
+    const take = () => turn === this.turn && void this.guarded(() => this.step(actor));
     const title = isNext ? "made next before" : undefined;
-    const attributes = { class: isNext ? "choice next" : "choice", "data-actor": actor, title, onclick: step };
-    return element("button", attributes, who, ` ${what}`);
+    const attributes = { class: isNext ? "choice next" : "choice", "data-actor": actor, title, onclick: take };
+    return element("button", attributes, actorName(step, this.scene.names), ` ${stepWords(step)}`);
   }
 }

@@ -1,28 +1,17 @@
 -- How a chart is drawn. Its places grow at the end, so what a lead says of two places stays true; each row stands for
 -- one place, and equal rows are of equal configurations. Once each place has its leads, every reduced order leads along
 -- them from place to place.
-use Rattle.std.proofs.Common.{◌≡◌, ◌<◌, ◌≤◌, ◌+◌, ℕ, zero, suc, Bool, true, false, Some, List, [], ◌∷◌, ◌++◌, length, get_or, map, slice_get, refl, sym, ap, ◌∙◌, subst, arith, ◌⊎◌, inl, inr, ⊎_elim, append-nil, length-append}
-use Rattle.std.specs.List.{AllByRecursion}
-use Rattle.std.proofs.lemmas.List.{map-append}
+use Rattle.qs_dot.proofs.Common.{◌≡◌, ◌<◌, ◌≤◌, ◌+◌, ℕ, zero, suc, Bool, true, false, Some, List, [], ◌∷◌, ◌++◌, length, get_or, map, slice_get, refl, sym, ap, ◌∙◌, subst, arith, ◌⊎◌, inl, inr}
+use Rattle.qs_dot.proofs.Common.{⊎_elim, append-nil, length-append, AllByRecursion, map-append, ProgramShape, IsSound, Configuration, configuration_after, configuration_from, first_configuration}
+use Rattle.qs_dot.proofs.Common.{one_block_on, each_map, each_snoc, Lead, AreCharted, AreLeads, AreLeadsUpTo, AreMore, ArePlaces, IsBehind, IsLead, IsLeadOf, IsPlaced, IsRowPlaced, IsSooner}
+use Rattle.qs_dot.proofs.Common.{HasPlaceFor, HasOne, NoTwo, HasMoreThanAfter, rows_in, shape_of, IsInserted, GoesOn, IsStanding, RowShape, StandingShape, configuration_in, row_of, same, tells}
+use Rattle.qs_dot.proofs.Common.{has_back, has_front, has_some, pairs_join, two_snoc, below_or_past, goes_left, in_program, rules}
 use Rattle.qs_objects.specs.declared.held.Ticket.{Ticket}
-use Rattle.qs_program.specs.audit.Program.{ProgramShape}
-use Rattle.qs_program.specs.Sound.{IsSound}
-use Rattle.qs_meaning.specs.audit.Configurations.{Configuration, configuration_after, configuration_from, first_configuration, one_block_on}
 use Rattle.qs_meaning.specs.Reduced.{IsReducedFrom, goes_on}
-use Rattle.qs_meaning.proofs.Each.{each_map, each_snoc}
 use Rattle.qs_meaning.proofs.Orders.{configuration-append}
-use Rattle.qs_dot.specs.declared.chart.Lead.{Lead}
 use Rattle.qs_standings.specs.declared.rows.Row.{Row}
-use Rattle.qs_dot.specs.Charts.{AreCharted, AreLeads, AreLeadsUpTo, AreMore, ArePlaces, IsBehind, IsLead, IsLeadOf, IsPlaced, IsRowPlaced, IsSooner, HasPlaceFor}
-use Rattle.qs_standings.specs.Lists.{HasOne, NoTwo}
-use Rattle.qs_outcomes.specs.Outcomes.{HasMoreThanAfter}
-use Rattle.qs_standings.specs.Rows.{rows_in, shape_of, IsInserted}
-use Rattle.qs_standings.specs.Standings.{GoesOn, IsStanding, RowShape, StandingShape, configuration_in, row_of}
-use Rattle.qs_standings.proofs.Inserting.{same, tells}
-use Rattle.qs_standings.proofs.Lists.{has_back, has_front, has_some, pairs_join, two_snoc}
 use Rattle.qs_standings.proofs.RowSteps.{got}
 use Rattle.qs_standings.proofs.RowTells.{row_tells, same_configurations}
-use Rattle.qs_standings.proofs.Stands.{below_or_past, goes_left, in_program}
 
 got_of_map : {X Y : Type 0} (f : X → Y) (xs : List X) (i : ℕ) (y : Y) → slice_get (map f xs) i ≡ Some y → (x : X) × (slice_get xs i ≡ Some x) × (f x ≡ y)
 got_of_map f [] i y e = absurd (cc)
@@ -77,27 +66,20 @@ stands_on before after i g more at = (at.0, got_on before after i at.0 more at.1
 
 module _ (p : ProgramShape) (front : List Ticket) (sound : IsSound p) (limit : ℕ) (rows after : List RowShape) (places : List StandingShape) (s : StandingShape) (i : ℕ) (charted : AreCharted p front limit rows places) (is : IsStanding p front s) where
   found_at : (kept : List RowShape) (now : List StandingShape) → kept ≡ map (row_of p) now → AllByRecursion (IsStanding p front) now → slice_get kept i ≡ Some (row_of p s) → HasPlaceFor now i (configuration_in s)
-  found_at kept now are each e =
-      let t = got_of_map (row_of p) now i (row_of p s) (ap (λ rs. slice_get rs i) (sym are) ∙ e) in
-      (t.0, t.1, row_tells p front sound t.0 s (each_got (IsStanding p front) now i t.0 t.1 each) is t.2)
+  found_at kept now are each e = search (rules, row_tells, got_of_map, each_got)
 
   pub kept_charted : (new : Bool) → new ≡ false → IsRowPlaced rows (row_of p s) i new after → AreCharted p front limit after places
-  kept_charted new old placed =
-      let in_rows = subst (λ n. IsInserted rows (row_of p s) n after) old placed.0 in
-      record { rows = in_rows.0 ∙ charted.rows; reached = charted.reached; apart = charted.apart; small = charted.small }
+  kept_charted new old placed = search (rules)
 
   pub kept_placed : (new : Bool) → new ≡ false → IsRowPlaced rows (row_of p s) i new after → IsPlaced places places (configuration_in s) i
-  kept_placed new old placed =
-      let in_rows = subst (λ n. IsInserted rows (row_of p s) n after) old placed.0 in
-      record { more = more_none places; few = omega arith; there = found_at after places (in_rows.0 ∙ charted.rows) charted.reached placed.1 }
+  kept_placed new old placed = search (rules, more_none, found_at)
 
   others : (ts : List StandingShape) → AllByRecursion (IsStanding p front) ts → (HasOne (λ r. row_of p s ≡ r) (map (row_of p) ts) → ⊥) → AllByRecursion (λ t. configuration_in t ≡ configuration_in s → ⊥) ts
   others [] each none = tt
   others (t ∷ ts) each none = (λ e. none (inl (same_configurations p front s t is each.0 (sym e))), others ts each.1 (λ h. none (inr h)))
 
   apart_on : (HasOne (λ r. row_of p s ≡ r) rows → ⊥) → NoTwo (λ t u. configuration_in t ≡ configuration_in u) (places ++ s ∷ [])
-  apart_on none = two_snoc (λ t u. configuration_in t ≡ configuration_in u) places s charted.apart
-      (others places charted.reached (subst (λ rs. HasOne (λ r. row_of p s ≡ r) rs → ⊥) charted.rows none))
+  apart_on none = search (rules, two_snoc, others)
 
   pub more_charted : (new : Bool) → new ≡ true → length places < limit → IsRowPlaced rows (row_of p s) i new after → (now : List StandingShape) → now ≡ places ++ s ∷ [] → AreCharted p front limit after now
   more_charted new is_new less placed now are =
@@ -133,23 +115,10 @@ module _ (p : ProgramShape) (front : List Ticket) (sound : IsSound p) (limit : �
 -- the leads of places that grow at the end
 module _ (p : ProgramShape) (before after : List StandingShape) (more : AreMore before after) (leads : List Lead) (at client : ℕ) where
   lead_on : (l : Lead) → IsLead p before l → IsLead p after l
-  lead_on l lead = record {
-    standing = lead.standing;
-    begins = got_on before after l.from lead.standing more lead.begins;
-    goes = lead.goes;
-    ends = stands_on before after l.to (one_block_on p l.client (configuration_in lead.standing)) more lead.ends;
-  }
+  lead_on l lead = search (rules, got_on, stands_on)
 
   pub leads_on : at < length before → AreLeadsUpTo p before leads at client → AreLeadsUpTo p after leads at client
-  leads_on within are = record {
-    each = each_map lead_on leads are.each;
-    behind = are.behind;
-    all = λ i c s e goes behind. are.all i c s (got_back before after i s more (less i c behind) e) goes behind;
-    sorted = are.sorted;
-  }
-    where
-      less : (i c : ℕ) → IsBehind at client i c → i < length before
-      less i c behind = ⊎_elim (λ (l : i < at). omega (arith, l, within)) (λ (h : (i ≡ at) × (c < client)). (let e = h.0 in omega (arith, e, within))) behind
+  leads_on within are = search (rules, each_map, got_back, lead_on)
 
 behind_or_here : (at client i c : ℕ) → IsBehind at (client + 1) i c → IsBehind at client i c ⊎ ((i ≡ at) × (c ≡ client))
 behind_or_here at client i c (inl l) = inl (inl l)
@@ -167,46 +136,14 @@ module _ (p : ProgramShape) (places : List StandingShape) (leads : List Lead) (a
 
   pub lead_added : GoesOn p s client → (to : ℕ) → HasPlaceFor places to (one_block_on p client (configuration_in s)) → (now : List Lead)
       → now ≡ leads ++ record { from = at; client = client; to = to } ∷ [] → AreLeadsUpTo p places now at (client + 1)
-  lead_added goes to ends now is =
-      let l : Lead = record { from = at; client = client; to = to } in
-      subst (λ ls. AreLeadsUpTo p places ls at (client + 1)) (sym is)
-      (record {
-        each = each_snoc (IsLead p places) leads l are.each (record { standing = s; begins = here; goes = goes; ends = ends });
-        behind = each_snoc (λ (m : Lead). IsBehind at (client + 1) m.from m.client) leads l (each_map (behind_on at client) leads are.behind) (inr (refl, omega arith));
-        all = λ i c t e on behind. ⊎_elim
-            (λ (old : IsBehind at client i c). has_front (IsLeadOf i c) leads (l ∷ []) (are.all i c t e on old))
-            (λ (new : (i ≡ at) × (c ≡ client)). has_back (IsLeadOf i c) leads (l ∷ []) (inl (sym new.0, sym new.1)))
-            (behind_or_here at client i c behind);
-        sorted = pairs_join IsSooner leads (l ∷ []) are.sorted (tt, tt) (each_map (λ (m : Lead) (b : IsBehind at client m.from m.client). (b, tt)) leads are.behind);
-      })
+  lead_added goes to ends now is = search (rules, each_map, each_snoc, has_back, has_front, pairs_join, behind_or_here, behind_on)
 
   pub lead_skipped : (GoesOn p s client → ⊥) → AreLeadsUpTo p places leads at (client + 1)
-  lead_skipped stays = record {
-    each = are.each;
-    behind = each_map (behind_on at client) leads are.behind;
-    all = λ i c t e on behind. ⊎_elim
-        (λ (old : IsBehind at client i c). are.all i c t e on old)
-        (λ (new : (i ≡ at) × (c ≡ client)). absurd (stays (subst (λ u. GoesOn p u client) (same_there t i e new.0) (subst (GoesOn p t) new.1 on))))
-        (behind_or_here at client i c behind);
-    sorted = are.sorted;
-  }
+  lead_skipped stays = search (rules, each_map, behind_or_here, behind_on, same_there)
 
 -- all clients at a place
 pub place_done : (p : ProgramShape) (places : List StandingShape) (leads : List Lead) (at : ℕ) → AreLeadsUpTo p places leads at (length p.clients) → AreLeadsUpTo p places leads (at + 1) 0
-place_done p places leads at are = record {
-  each = are.each;
-  behind = each_map (λ (l : Lead) (b : IsBehind at (length p.clients) l.from l.client). ⊎_elim
-      (λ (less : l.from < at). inl (omega (arith, less)))
-      (λ (h : (l.from ≡ at) × (l.client < length p.clients)). inl (let e = h.0 in omega (arith, e))) b) leads are.behind;
-  all = λ i c s e on behind. ⊎_elim
-      (λ (less : i < at + 1). are.all i c s e on (⊎_elim
-      (λ (l : i < at). inl l)
-      (λ (past : at ≤ i). inr ((omega (arith, less, past)), in_program p s c (goes_left p s c on)))
-      (below_or_past i at)))
-      (λ (h : (i ≡ at + 1) × (c < 0)). absurd (let l = h.1 in omega (arith, l)))
-      behind;
-  sorted = are.sorted;
-}
+place_done p places leads at are = search (rules, each_map, below_or_past, goes_left, in_program)
 
 pub all_led : (p : ProgramShape) (places : List StandingShape) (leads : List Lead) (at : ℕ) → length places ≤ at → AreLeadsUpTo p places leads at 0 → AreLeads p places leads
 all_led p places leads at past are = record {

@@ -1,21 +1,14 @@
 -- Each end of a chart has a number in a list of all outcomes after its front: the order that leads to the end is
 -- complete, so its outcome is in the list, and says the same. The law on them, `EndsHaveNumbers`, is proved here.
-use Rattle.std.proofs.Common.{◌≡◌, ℕ, suc, Bool, true, false, if◌then◌else◌, List, [], ◌∷◌, ◌++◌, length, codes, refl, sym, ap, ◌∙◌, subst, inl, inr, true≢false}
+use Rattle.qs_dot.proofs.Common.{◌≡◌, ℕ, suc, Bool, true, false, if◌then◌else◌, List, [], ◌∷◌, ◌++◌, length, codes, refl, sym, ap, ◌∙◌, subst, inl, inr, true≢false, IsComplete, IsListedAfter}
+use Rattle.qs_dot.proofs.Common.{outcome_at, ProgramShape, client_at, object_at, has_map, HasOne, IsStanding, StandingShape, texts_up_to, end_text, holds_text, number_in, same_text, EndsHaveNumbers}
+use Rattle.qs_dot.proofs.Common.{HasNumber}
 use Rattle.std.specs.Cmp.Lexicographic.{bytes_decides}
-use Rattle.qs_meaning.specs.audit.Configurations.{IsComplete}
 use Rattle.qs_meaning.specs.Configurations.{OrderOutcome, outcome_of}
 use Rattle.qs_outcomes.proofs.Explored.{listed_end}
-use Rattle.qs_outcomes.specs.Outcomes.{IsListedAfter, outcome_at}
-use Rattle.qs_program.specs.audit.Program.{ProgramShape, client_at, object_at}
-use Rattle.qs_standings.proofs.Lists.{has_map}
-use Rattle.qs_standings.specs.Lists.{HasOne}
-use Rattle.qs_standings.specs.Standings.{IsStanding, StandingShape}
-use Rattle.qs_text.specs.audit.Texts.{texts_up_to}
 use Rattle.qs_dot.proofs.Charting.{each_got}
 use Rattle.qs_dot.proofs.Ends.{ends_are_outcomes}
-use Rattle.qs_dot.specs.EndText.{end_text, holds_text, number_in, same_text}
 use Rattle.qs_text.specs.Variables.{variables_text}
-use Rattle.qs_dot.specs.ChartLaws.{EndsHaveNumbers, HasNumber}
 
 -- what an end says is said of its outcome
 same_end : (p : ProgramShape) (t s : StandingShape) → outcome_at t ≡ outcome_at s → end_text p t ≡ end_text p s

@@ -1,15 +1,7 @@
 -- Where a block is left somebody goes on, and then a lead begins there; and who leads on has a block left.
-use Rattle.std.proofs.Common.{arith, ◌≡◌, ℕ, Bool, true, false, ◌||◌, nat_eq, Some, List, [], ◌∷◌, slice_get, refl, sym, ap, ◌∙◌, subst, inl, inr, true≢false}
-use Rattle.std.specs.List.{AllByRecursion, list_any}
-use Rattle.std.proofs.lemmas.Bool.Decides.{nat_tests}
-use Rattle.qs_program.specs.audit.Program.{ProgramShape}
+use Rattle.qs_dot.proofs.Common.{arith, ◌≡◌, ℕ, Bool, true, false, ◌||◌, nat_eq, Some, List, [], ◌∷◌, slice_get, refl, sym, ap, ◌∙◌, subst, inl, inr, true≢false, AllByRecursion, list_any, nat_tests}
+use Rattle.qs_dot.proofs.Common.{ProgramShape, Lead, HasOne, NoneNext, HasNext, StandingShape, configuration_in, goes_left, IsLead, IsLeadOf, EndsAreOutcomes}
 use Rattle.qs_meaning.proofs.Groups.{some_go_on}
-use Rattle.qs_dot.specs.declared.chart.Lead.{Lead}
-use Rattle.qs_standings.specs.Lists.{HasOne}
-use Rattle.qs_standings.specs.Standings.{NoneNext, HasNext, StandingShape, configuration_in}
-use Rattle.qs_standings.proofs.Stands.{goes_left}
-use Rattle.qs_dot.specs.Charts.{IsLead, IsLeadOf}
-use Rattle.qs_dot.specs.ChartLaws.{EndsAreOutcomes}
 
 same_number : (m n : ℕ) → m ≡ n → nat_eq m n ≡ true
 same_number m n e = grind (arith, nat_tests)

@@ -1,13 +1,9 @@
 -- A sound program has just one drawing of its graphs, although the definition lets the held sets be any that fit. The
 -- law on drawings, `DotTextsAreUnique`, is proved here. What is held at a node is fixed by the graph, so each node is.
-use Rattle.std.proofs.Common.{◌≡◌, ℕ, Bool, List, ◌++◌, codes, sym, ap, ◌∙◌}
-use Rattle.qs_program.specs.audit.Program.{ProgramShape, own_block}
-use Rattle.qs_program.specs.Sound.{IsSound}
+use Rattle.qs_dot.proofs.Common.{◌≡◌, ℕ, Bool, List, ◌++◌, codes, sym, ap, ◌∙◌, ProgramShape, own_block, IsSound, AreSetsOf, lines_of_block, node_text, frame_text, graph_nodes_drawn, IsBlockDrawn}
+use Rattle.qs_dot.proofs.Common.{IsDotText, DotTextsAreUnique}
 use Rattle.qs_graph.specs.audit.Names.{graph_of}
-use Rattle.qs_syncset.specs.held.Table.{AreSetsOf}
-use Rattle.qs_dot.specs.node_lines.NodeLines.{lines_of_block}
 use Rattle.qs_text.proofs.BlockTexts.{one_block, one_of_blocks, same_nodes}
-use Rattle.qs_dot.specs.DotText.{node_text, frame_text, graph_nodes_drawn, IsBlockDrawn, IsDotText, DotTextsAreUnique}
 
 same_drawn : (p : ProgramShape) (c k : ℕ) (lines : List ℕ) → IsSound p → (one other : List (List Bool))
     → AreSetsOf (graph_of p c k) one → AreSetsOf (graph_of p c k) other

@@ -1,7 +1,6 @@
 -- What threads share: a step of a search holds nothing that a thread must not see while another one does.
-use denote.Param.Send.{IsSync, sendable}
+use Rattle.qs_levels.proofs.Common.{IsSync, sendable, crosses}
 use denote.Ref.{NamedLft}
-use Rattle.std.proofs.Crossing.{crosses}
 use Rattle.std.proofs.MapsCrossing as maps
 use Rattle.qs_program.proofs.code.Body.TheLaws.TheKnot as bodies
 

@@ -1,10 +1,9 @@
 -- Who goes on is the same once a client's next block has run, if the block behind it reserves the same objects: then the
 -- client comes in the way of the same clients, and the same come in its way, with a block left as before. So each set
 -- that is grown from a client is the same, and so is the first of the smallest. It goes by induction on rounds and clients.
-use Rattle.std.proofs.Common.{◌≡◌, ◌<◌, ℕ, zero, suc, if◌then◌else◌, ◌==◌, ◌&&◌, ◌||◌, nat_lt, List, ◌∷◌, length, get_or, drop, refl, sym, ap, ◌∙◌, arith}
 use Rattle.qs_levels.proofs.Common.{block_at, block_reserves, blocks_of, BlockShape, client_at, Clients, comes_in, Counts, first_smallest, goes_on, has_block_left, list_any, nat_tests, no_block, ProgramShape, put, smaller, some_below, still_reserves, widened, wider}
+use Rattle.qs_levels.proofs.Common.{◌≡◌, ◌<◌, ℕ, zero, suc, if◌then◌else◌, ◌==◌, ◌&&◌, ◌||◌, nat_lt, List, ◌∷◌, length, get_or, drop, refl, sym, ap, ◌∙◌, arith, ReservesAgain, rules}
 use Rattle.qs_program.specs.audit.Sound.{is_in}
-use Rattle.qs_levels.specs.Shares.{ReservesAgain}
 
 -- the block behind has what the block before it has
 behind : (bs : List BlockShape) (n h : ℕ) → suc n < length bs → (get_or bs n no_block).reserved ≡ (get_or bs (suc n) no_block).reserved
@@ -30,10 +29,7 @@ module _ (p : ProgramShape) (begun : Counts) (c : ℕ) (again : ReservesAgain p 
   next d = by_client (λ d n. (block_at p d n).reserved) (sym again.same) d
 
   left : (d : ℕ) → has_block_left p later d ≡ has_block_left p begun d
-  left d = by_client (λ d n. nat_lt n (blocks_of p d)) own d
-    where
-      own : nat_lt (suc (begun c)) (blocks_of p c) ≡ nat_lt (begun c) (blocks_of p c)
-      own = let less = again.left in grind (arith, nat_tests)
+  left d = search (rules, by_client)
 
   comes : (a b : ℕ) → comes_in p later a b ≡ comes_in p begun a b
   comes a b = let xs = next a in λ i. list_any (λ h. still b h i) (xs i)

@@ -3,10 +3,7 @@
 -- configuration the least is kept.
 use Rattle.std.proofs.Common.{◌≡◌, ◌<◌, ℕ, zero, suc, Bool, true, false, true≢false, if◌then◌else◌, List, [], ◌∷◌, ◌++◌, length, map, slice_index_or, refl, sym, ap, ◌∙◌, subst, arith, ◌⊎◌, inl, inr, append_assoc, append-nil}
 use Rattle.qs_levels.proofs.Common.{AllByRecursion, before_both, before_longer, cases_Bool, configuration_after, configuration_in, each_both, each_map, each_snoc, fork, has_back, has_front, has_of, HasOne, IsBefore, IsNext, IsSound, IsStanding, none_of, pairs_join, ProgramShape, row_of, row_tells, StandingShape, Ticket, two_snoc}
-use Rattle.qs_levels.specs.Founds.{Found, found_in, no_standing}
-use Rattle.qs_levels.specs.meaning.Onward.{IsReached, StandsFor, order_on}
-use Rattle.qs_levels.specs.Leads.{AreKept, IsLead, IsLedOn, IsLedUpTo, IsTableOf, TableShape, leads_below, with_lead}
-use Rattle.qs_levels.specs.Shares.{is_taken}
+use Rattle.qs_levels.proofs.Common.{Found, found_in, no_standing, IsReached, StandsFor, order_on, AreKept, IsLead, IsLedOn, IsLedUpTo, IsTableOf, TableShape, leads_below, with_lead, is_taken}
 use Rattle.qs_levels.proofs.meaning.Lists.{has_mapped, map_snoc, mapped_has}
 
 module _ (p : ProgramShape) (front : List Ticket) (sound : IsSound p) where
@@ -81,10 +78,9 @@ module _ (p : ProgramShape) (front : List Ticket) (sound : IsSound p) where
         by_row (inl (new, going, same)) = subst (IsFarOn (suc c)) (sym same) (record {
           far = record {
             are_rows = ap (λ rs. rs ++ row_of p n ∷ []) so_far.far.are_rows ∙ (sym (map_snoc (row_of p) (found_in middle.found) n) ∙ ap (map (row_of p)) (sym (longer going)));
-            kept = subst (λ ns. AreKept p front (orders ++ leads_below p number count s (suc c)) ns) (sym (longer going))
-                (subst (λ os. AreKept p front os (found_in middle.found ++ n ∷ [])) now
-                (keeps_new (orders ++ leads_below p number count s c) (found_in middle.found) n (order_on s c) next.standing next.order so_far.ahead so_far.far.kept
-                (λ h. new (subst (HasOne (λ r. row_of p n ≡ r)) (sym so_far.far.are_rows) (mapped_has (row_of p) (λ r. row_of p n ≡ r) (found_in middle.found) h)))));
+            kept = subst (λ ns. AreKept p front (orders ++ leads_below p number count s (suc c)) ns) (sym (longer going)) (subst (λ os. AreKept p front os (found_in middle.found ++ n ∷ [])) now
+                (keeps_new _ (found_in middle.found) n (order_on s c) next.standing next.order so_far.ahead so_far.far.kept
+                (λ h. new (rw so_far.far.are_rows (mapped_has (row_of p) _ (found_in middle.found) h)))));
             by_lead = each_snoc (IsLead p front number count ss) middle.found (found_by c n going) so_far.far.by_lead (lead_is c n going taken next);
           };
           ahead = subst (AllByRecursion (λ m. IsBefore m.order (order_on s (suc c)))) (sym (longer going))
@@ -93,9 +89,8 @@ module _ (p : ProgramShape) (front : List Ticket) (sound : IsSound p) where
         by_row (inr (old, same)) = subst (IsFarOn (suc c)) (sym same) (record {
           far = record {
             are_rows = so_far.far.are_rows;
-            kept = subst (λ os. AreKept p front os (found_in middle.found)) now
-                (keeps_old (orders ++ leads_below p number count s c) (found_in middle.found) n (order_on s c) next.standing next.order so_far.ahead so_far.far.kept
-                (has_mapped (row_of p) (λ r. row_of p n ≡ r) (found_in middle.found) (subst (HasOne (λ r. row_of p n ≡ r)) so_far.far.are_rows old)));
+            kept = subst (λ os. AreKept p front os (found_in middle.found)) now (keeps_old _ (found_in middle.found) n (order_on s c) next.standing next.order so_far.ahead so_far.far.kept
+                (has_mapped (row_of p) (λ r. row_of p n ≡ r) (found_in middle.found) (rw so_far.far.are_rows at old)));
             by_lead = so_far.far.by_lead;
           };
           ahead = behind;

@@ -1,10 +1,8 @@
 -- The part with the least first lead, as parts come up one after another. Leads are in one order, so what is no more
 -- than one lead is no more than all that this one is no more than.
-use Rattle.std.proofs.Common.{◌≡◌, ◌<◌, ◌+◌, ℕ, List, [], ◌∷◌, Option, None, Some, length, slice_index_or, refl, sym, subst, arith, inl, inr}
-use Rattle.std.proofs.lemmas.Bool.{cases_eq}
-use Rattle.qs_levels.specs.Merging.{IsBetter, IsLeastPart, IsLeastTo, IsLess, IsNoMore, IsNoMoreThanFirst, first_lead}
+use Rattle.qs_levels.proofs.Common.{◌≡◌, ◌<◌, ◌+◌, ℕ, List, [], ◌∷◌, Option, None, Some, length, slice_index_or, refl, sym, subst, arith, inl, inr, cases_eq, IsBetter, IsLeastPart, IsLeastTo, IsLess}
+use Rattle.qs_levels.proofs.Common.{IsNoMore, IsNoMoreThanFirst, first_lead, Found, rules}
 use Rattle.qs_levels.specs.declared.merging.Candidate.{Candidate}
-use Rattle.qs_levels.specs.Founds.{Found}
 use Rattle.qs_levels.specs.declared.table.Lead.{Lead}
 
 no_more_both : (l k m : Lead) → IsLess l k → IsNoMore k m → IsNoMore l m
@@ -30,17 +28,7 @@ module _ (parts : List (List Found)) (n : ℕ) where
   new_best l e least = (omega arith, e, one_more (λ i. IsNoMoreThanFirst l (at i)) least (subst (IsNoMoreThanFirst l) (sym e) (inr (refl, refl))))
 
   pub least_on : (best better : Option Candidate) → IsLeastTo parts n best → IsBetter best n (first_lead (slice_index_or parts n [])) better → IsLeastTo parts (n + 1) better
-  least_on best better least is = by_first (at n) refl best least is
-    where
-      by_first : (first : Option Lead) → at n ≡ first → (b : Option Candidate) → IsLeastTo parts n b → IsBetter b n first better → IsLeastTo parts (n + 1) better
-      by_first None e None least same = subst (IsLeastTo parts (n + 1)) {x = None} (sym same) (one_more (λ i. at i ≡ None) least e)
-      by_first None e (Some b) least same = subst (IsLeastTo parts (n + 1)) {x = Some b} (sym same) (old_best b least (subst (IsNoMoreThanFirst b.lead) (sym e) tt))
-      by_first (Some l) e None least same =
-          subst (IsLeastTo parts (n + 1)) {x = Some (record { number = n; lead = l })} (sym same) (new_best l e (λ i less. subst (IsNoMoreThanFirst l) (sym (least i less)) tt))
-      by_first (Some l) e (Some b) least (inl (less, same)) =
-          subst (IsLeastTo parts (n + 1)) {x = Some (record { number = n; lead = l })} (sym same) (new_best l e (λ i under. no_more_first l b.lead (at i) less (least.2 i under)))
-      by_first (Some l) e (Some b) least (inr (no_more, same)) =
-          subst (IsLeastTo parts (n + 1)) {x = Some b} (sym same) (old_best b least (subst (IsNoMoreThanFirst b.lead) (sym e) no_more))
+  least_on best better least is = search (rules, no_more_first, one_more, old_best, new_best)
 
 -- a part without a first lead is empty
 pub none_first : (fs : List Found) → first_lead fs ≡ None → fs ≡ []
@@ -51,10 +39,4 @@ pub least_none : (parts : List (List Found)) → IsLeastTo parts (length parts) 
 least_none parts least i less = none_first (slice_index_or parts i []) (least i less)
 
 pub least_some : (parts : List (List Found)) (b : Candidate) → IsLeastTo parts (length parts) (Some b) → IsLeastPart parts (Some b.number)
-least_some parts b least = let at = by_part (slice_index_or parts b.number []) refl least.1 in (least.0, at.0, at.1, at.2, at.3)
-  where
-    by_part : (fs : List Found) → slice_index_or parts b.number [] ≡ fs → first_lead fs ≡ Some b.lead
-        → (f : Found) × (rest : List Found) × (slice_index_or parts b.number [] ≡ f ∷ rest) × ((i : ℕ) → i < length parts → IsNoMoreThanFirst f.lead (first_lead (slice_index_or parts i [])))
-    by_part [] same e = absurd cc
-    by_part (f ∷ rest) same e =
-        let lead : f.lead ≡ b.lead = cc e in (f, rest, same, λ i less. subst (λ l. IsNoMoreThanFirst l (first_lead (slice_index_or parts i []))) (sym lead) (least.2 i less))
+least_some parts b least = search (rules)

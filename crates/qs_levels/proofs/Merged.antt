@@ -4,17 +4,12 @@
 -- parts had holds of what was merged.
 use Rattle.std.proofs.Common.{◌≡◌, ◌<◌, ◌+◌, ◌%◌, ◌&&◌, ℕ, zero, suc, true, List, [], ◌∷◌, ◌++◌, length, get_or, take, drop, map, flat_map, replicate, slice_index_or, refl, sym, ap, ap₂, ◌∙◌, subst, arith, ◌⊎◌, inl, inr, Some, get_or-set_same, get_or-set_other}
 use Rattle.qs_levels.proofs.Common.{AllByRecursion, and_cases, append-nil, AreSorted, before_both, before_longer, before_onward, below_or_past, cases_eq, Configuration, configuration_in, drop-cons, each_both, each_front, each_join, each_map, each_snoc, EachTwo, eqb_self, eqb_true, fork, get_or-append_seam, get_or_append_left, goes_left, goes_on, GoesOn, has_back, has_front, has_map, has_some, HasOne, in_byte, in_program, IsBefore, IsLongerBy, IsNext, IsSound, IsStanding, length-append, length-drop, length-set, length-take-le, no_state, not_before, one_block_on, pairs_front, pairs_join, ProgramShape, same_list, slice_set, StandingShape, take-append-drop, Ticket, zeros}
+use Rattle.qs_levels.proofs.Common.{AreDistinct, Found, found_in, level_in, no_found, no_standing, standing_at, HasMoreOnward, IsOneLonger, IsReached, StandsFor, order_on, IsLead, IsPartOf, leads}
+use Rattle.qs_levels.proofs.Common.{leads_below, IsNextOf, AreParts, IsLeastPart, IsLess, IsNoMore, IsNoMoreThanFirst, first_lead, rests_of, spot_of, AreGoing, IsGoing, is_taken, mark_of, weight}
+use Rattle.qs_levels.proofs.Common.{Going, rules}
 use Rattle.indexmap.proofs.SetLemmas.{AllZip-push}
 use Rattle.qs_outcomes.proofs.Mapped.{each_mapped}
-use Rattle.qs_levels.specs.meaning.Fronts.{AreDistinct}
-use Rattle.qs_levels.specs.Founds.{Found, found_in, level_in, no_found, no_standing, standing_at}
 use Rattle.qs_levels.specs.declared.level.Spot.{Spot}
-use Rattle.qs_levels.specs.meaning.Onward.{HasMoreOnward, IsOneLonger, IsReached, StandsFor, order_on}
-use Rattle.qs_levels.specs.Leads.{IsLead, IsPartOf, leads, leads_below}
-use Rattle.qs_levels.specs.meaning.Levels.{IsNextOf}
-use Rattle.qs_levels.specs.Merging.{AreParts, IsLeastPart, IsLess, IsNoMore, IsNoMoreThanFirst, first_lead, rests_of, spot_of}
-use Rattle.qs_levels.specs.Shares.{AreGoing, IsGoing, is_taken, mark_of, weight}
-use Rattle.qs_levels.specs.declared.level.Going.{Going}
 use Rattle.qs_levels.proofs.meaning.Lists.{all_among, each_at, map_snoc, mapped_has, two_of}
 use Rattle.qs_levels.proofs.NextLevels.{among_below, each_lead, kept_distinct, kept_onward, lead_each, one_longer, taken_goes}
 use Rattle.qs_levels.proofs.meaning.Weights.{weighted_more}
@@ -68,19 +63,18 @@ next_alone p front s c m n a b =
     λ i. record { order = order i; begun = begun i; locals = locals i; states = states i }
 
 module _ (p : ProgramShape) (front : List Ticket) (level : List StandingShape) (sorted : AreSorted level) where
-  -- the place from which a lead leads, and the configuration there
-  module _ (number count : ℕ) (f : Found) (lead : IsLead p front number count level f) where
-    abbrev from_there : StandingShape
-    from_there = slice_index_or level f.lead.source no_standing
+  -- the place from which a lead leads
+  abbrev at : ℕ → StandingShape
+  at k = slice_index_or level k no_standing
 
-    -- a lead is in the share of the configuration to which it leads
-    in_share : (mark_of p (configuration_in f.standing).begun) % count ≡ number
-    in_share =
-        let taken = and_cases _ _ lead.taken in
-        let more : mark_of p (one_block_on p f.lead.client (configuration_in from_there)).begun ≡ mark_of p (configuration_in from_there).begun + weight f.lead.client =
-        weighted_more weight (length p.clients) f.lead.client (configuration_in from_there).begun
-        (in_program p from_there f.lead.client (goes_left p from_there f.lead.client (taken_goes p number count from_there f.lead.client lead.taken))) in
-        ap (λ (g : Configuration). mark_of p g.begun % count) lead.next.next ∙ (ap (λ m. m % count) more ∙ eqb_true _ _ taken.1)
+  -- a lead is in the share of the configuration to which it leads
+  in_share : (number count : ℕ) (f : Found) → IsLead p front number count level f → (mark_of p (configuration_in f.standing).begun) % count ≡ number
+  in_share number count f lead =
+      let s = at f.lead.source in
+      let more : mark_of p (one_block_on p f.lead.client (configuration_in s)).begun ≡ mark_of p (configuration_in s).begun + weight f.lead.client =
+      weighted_more weight (length p.clients) f.lead.client (configuration_in s).begun
+      (in_program p s f.lead.client (goes_left p s f.lead.client (taken_goes p number count s f.lead.client lead.taken))) in
+      ap (λ (g : Configuration). mark_of p g.begun % count) lead.next.next ∙ (ap (λ m. m % count) more ∙ eqb_true _ _ (and_cases _ _ lead.taken).1)
 
   sorted_at : (ss : List StandingShape) (i j : ℕ) → AreSorted ss → i < j → j < length ss → IsBefore (slice_index_or ss i no_standing).order (slice_index_or ss j no_standing).order
   sorted_at (s ∷ ss) zero (suc j) two less within = each_at (λ t. IsBefore s.order t.order) ss j no_standing (omega (arith, within)) two.0
@@ -90,28 +84,15 @@ module _ (p : ProgramShape) (front : List Ticket) (level : List StandingShape) (
   -- of leads of two shares, the less one gives the order that is before
   module _ (i j count : ℕ) (f g : Found) (a : IsLead p front i count level f) (b : IsLead p front j count level g) where
     less_before : IsLess f.lead g.lead → IsBefore f.standing.order g.standing.order
-    less_before (inl less) =
-        let s = slice_index_or level f.lead.source no_standing in
-        let t = slice_index_or level g.lead.source no_standing in
-        subst (λ ts. IsBefore ts g.standing.order) (sym a.next.order)
-        (subst (IsBefore (order_on s f.lead.client)) (sym b.next.order)
-        (before_longer (order_on s f.lead.client) t.order (record { client = g.lead.client; index = (configuration_in t).begun g.lead.client } ∷ [])
-        (before_onward s.order t.order (record { client = f.lead.client; index = (configuration_in s).begun f.lead.client } ∷ [])
-        (sorted_at level f.lead.source g.lead.source sorted less b.within))))
+    less_before (inl less) = rw (a.next.order, b.next.order) (before_longer _ _ _ (before_onward _ _ _ (sorted_at level f.lead.source g.lead.source sorted less b.within)))
     less_before (inr (same, less)) =
-        let s = slice_index_or level f.lead.source no_standing in
-        let t = slice_index_or level g.lead.source no_standing in
-        let one : t.order ≡ s.order = ap (λ k. (slice_index_or level k no_standing).order) (sym same) in
-        subst (λ ts. IsBefore ts g.standing.order) (sym a.next.order)
-        (subst (IsBefore (order_on s f.lead.client)) (sym (b.next.order ∙ ap (λ ts. ts ++ record { client = g.lead.client; index = (configuration_in t).begun g.lead.client } ∷ []) one))
-        (fork s.order (record { client = f.lead.client; index = (configuration_in s).begun f.lead.client }) (record { client = g.lead.client; index = (configuration_in t).begun g.lead.client }) less))
+        rw (a.next.order, b.next.order) (subst (λ k. IsBefore (order_on (at f.lead.source) f.lead.client) (order_on (at k) g.lead.client)) same (fork (at f.lead.source).order _ _ less))
 
     same_share : f.lead.source ≡ g.lead.source → f.lead.client ≡ g.lead.client → i ≡ j
     same_share source client =
-        let s = slice_index_or level f.lead.source no_standing in
-        let from : slice_index_or level g.lead.source no_standing ≡ s = ap (λ k. slice_index_or level k no_standing) (sym source) in
-        let other : IsNext p front s f.lead.client g.standing = subst (λ c. IsNext p front s c g.standing) (sym client) (subst (λ t. IsNext p front t g.lead.client g.standing) from b.next) in
-        let one : f.standing ≡ g.standing = next_alone p front s f.lead.client f.standing g.standing a.next other in
+        let other : IsNext p front (at f.lead.source) f.lead.client g.standing =
+        subst (λ c. IsNext p front (at f.lead.source) c g.standing) (sym client) (subst (λ k. IsNext p front (at k) g.lead.client g.standing) (sym source) b.next) in
+        let one : f.standing ≡ g.standing = next_alone p front (at f.lead.source) f.lead.client f.standing g.standing a.next other in
         sym (in_share i count f a) ∙ (ap (λ (n : StandingShape). mark_of p (configuration_in n).begun % count) one ∙ in_share j count g b)
 
     no_more_before : (i ≡ j → ⊥) → IsNoMore f.lead g.lead → IsBefore f.standing.order g.standing.order
@@ -268,9 +249,6 @@ module _ (p : ProgramShape) (front : List Ticket) (sound : IsSound p) (level : L
   each_had : (P : StandingShape → Type 0) → ((i : ℕ) → i < length parts → AllByRecursion P (found_in (part i))) → AllByRecursion P had
   each_had P each = each_flat P found_in parts [] each
 
-  had_standing : AllByRecursion (IsStanding p front) had
-  had_standing = each_had (IsStanding p front) (λ i less. (are i less).kept.standing)
-
   had_onward : AllByRecursion (λ n. HasOne (λ s. IsOneLonger s n) level) had
   had_onward = each_had (λ n. HasOne (λ s. IsOneLonger s n) level)
       (λ i less. kept_onward p front level (leads p i (length parts) level) (found_in (part i))
@@ -303,13 +281,9 @@ module _ (p : ProgramShape) (front : List Ticket) (sound : IsSound p) (level : L
           (λ x there before e. apart (sym there ∙ (ap (λ (g : Configuration). mark_of p g.begun % length parts) e ∙ here))) (found_in (part i)) (had_share i less))
           (found_in (part j)) (had_share j within)
 
-      flip : (xs ys : List StandingShape) → AllByRecursion (λ x. AllByRecursion (IsApart x) ys) xs → AllByRecursion (λ y. AllByRecursion (λ x. IsApart x y) xs) ys
-      flip xs [] h = tt
-      flip xs (y ∷ ys) h = (each_map {P = λ x. AllByRecursion (IsApart x) (y ∷ ys)} {Q = λ x. IsApart x y} (λ x w. w.0) xs h, flip xs ys (each_map {P = λ x. AllByRecursion (IsApart x) (y ∷ ys)} {Q = λ x. AllByRecursion (IsApart x) ys} (λ x w. w.1) xs h))
-
       by_shares : (i j : ℕ) → i < length parts → j < length parts → AllByRecursion (λ y. AllByRecursion (λ x. IsApart x y) (found_in (part i))) (found_in (part j))
       by_shares i j less within = elim (cases_eq i j) [
-        | inl same ↦ subst (λ k. AllByRecursion (λ y. AllByRecursion (λ x. IsApart x y) (found_in (part i))) (found_in (part k))) same (flip (found_in (part i)) (found_in (part i)) (one_part i less))
+        | inl same ↦ subst (λ k. AllByRecursion (λ y. AllByRecursion (λ x. IsApart x y) (found_in (part i))) (found_in (part k))) same (each_swap (λ y x. IsApart x y) (found_in (part i)) (found_in (part i)) (one_part i less))
         | inr apart ↦ other_parts i j apart less within
       ]
 
@@ -334,7 +308,7 @@ module _ (p : ProgramShape) (front : List Ticket) (sound : IsSound p) (level : L
   pub merging_ends : (rests : List (List Found)) (all : List StandingShape) (gs : List Going) → IsMerging p front (length parts) level had rests all gs → ((i : ℕ) → i < length rests → slice_index_or rests i [] ≡ [])
       → IsNextOf p front level all
   merging_ends rests all gs m empty = record {
-    standing = of_had (IsStanding p front) had_standing;
+    standing = of_had (IsStanding p front) (each_had (IsStanding p front) (λ i less. (are i less).kept.standing));
     onward = of_had (λ n. HasOne (λ s. IsOneLonger s n) level) had_onward;
     once = two_of {Q = λ x. AllByRecursion (IsApart x) had × HasOne (λ u. u ≡ x) had} (λ s t. IsBefore s.order t.order) (λ s t. configuration_in s ≡ configuration_in t → ⊥)
         (λ s t a b before e. has_some (λ u (same : u ≡ t) (apart : IsApart s u). apart (subst (λ (n : StandingShape). IsBefore s.order n.order) (sym same) before) (e ∙ ap configuration_in (sym same))) had b.1 a.0)
@@ -440,24 +414,13 @@ pub taking_goes_on : (p : ProgramShape) (front : List Ticket) (level : List Stan
     (level_in parts (spots ++ spot_of parts k (slice_index_or ns k 0) ∷ [])).going
 taking_goes_on p front level level_sorted parts ns spots k even m next =
     let n = slice_index_or ns k 0 in
-    let all = (level_in parts spots).standings in
-    let gs = (level_in parts spots).going in
-    let spot = spot_of parts k n in
-    let standings : all ++ next.found.standing ∷ [] ≡ map (standing_at parts) (spots ++ spot ∷ []) =
-    ap (λ (f : Found). all ++ f.standing ∷ []) (sym next.here) ∙ sym (map_snoc (standing_at parts) spots spot) in
-    let going : gs ++ record { clients = next.found.going; share = k } ∷ [] ≡ map (λ (s : Spot). s.going) (spots ++ spot ∷ []) =
-    ap (λ (f : Found). gs ++ record { clients = f.going; share = k } ∷ []) (sym next.here) ∙ sym (map_snoc (λ (s : Spot). s.going) spots spot) in
-    let rests : slice_set (rests_of ns parts) k next.rest ≡ rests_of (slice_set ns k (suc n)) parts =
-    ap (slice_set (rests_of ns parts) k) (sym next.behind) ∙ sym (rests_on ns parts k (suc n) even next.number) in
-    subst (λ rs. IsMerging p front (length parts) level (all_in parts) rs (level_in parts (spots ++ spot ∷ [])).standings (level_in parts (spots ++ spot ∷ [])).going) rests
-    (subst (λ ss. IsMerging p front (length parts) level (all_in parts) (slice_set (rests_of ns parts) k next.rest) ss (level_in parts (spots ++ spot ∷ [])).going) standings
-    (subst (IsMerging p front (length parts) level (all_in parts) (slice_set (rests_of ns parts) k next.rest) (all ++ next.found.standing ∷ [])) going
-    (merging_goes_on p front (length parts) level (all_in parts) (rests_of ns parts) all gs level_sorted m k (let l = rests_long ns parts even in let less = next.number in omega (arith, l, less)) next.found next.rest
-    next.left next.least)))
+    let less : k < length (rests_of ns parts) = (let l = rests_long ns parts even in let less = next.number in omega (arith, l, less)) in
+    rw (rests_on ns parts k (suc n) even next.number, next.behind, map_snoc (standing_at parts) spots (spot_of parts k n), map_snoc (λ (s : Spot). s.going) spots (spot_of parts k n))
+    (subst (λ (f : Found). IsMerging p front (length parts) level (all_in parts) (slice_set (rests_of ns parts) k next.rest) ((level_in parts spots).standings ++ f.standing ∷ [])
+    ((level_in parts spots).going ++ record { clients = f.going; share = k } ∷ [])) (sym next.here)
+    (merging_goes_on p front (length parts) level (all_in parts) (rests_of ns parts) _ _ level_sorted m k less next.found next.rest next.left next.least))
 
 -- fewer are left
 pub taking_shrinks : (parts : List (List Found)) (ns : List ℕ) (k : ℕ) → length ns ≡ length parts → IsNextTaken parts ns k
     → left_in (rests_of (slice_set ns k (suc (slice_index_or ns k 0))) parts) < left_in (rests_of ns parts)
-taking_shrinks parts ns k even next =
-    subst (λ rs. left_in rs < left_in (rests_of ns parts)) (ap (slice_set (rests_of ns parts) k) (sym next.behind) ∙ sym (rests_on ns parts k (suc (slice_index_or ns k 0)) even next.number))
-    (fewer_left (rests_of ns parts) k next.found next.rest (let l = rests_long ns parts even in let less = next.number in omega (arith, l, less)) next.left)
+taking_shrinks parts ns k even next = search (rules, fewer_left, rests_long, rests_on)

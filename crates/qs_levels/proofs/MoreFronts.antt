@@ -1,13 +1,10 @@
 -- Where a level is more than the limit, and where none is: a level has all configurations after its number of blocks,
 -- so no more of them are different than it has standings.
-use Rattle.std.proofs.Common.{◌≡◌, ◌<◌, ◌≤◌, ℕ, suc, List, [], ◌∷◌, ◌++◌, length, refl, sym, ap, ◌∙◌, subst, arith, inl, inr, length-append}
-use Rattle.qs_levels.proofs.Common.{AllByRecursion, below_or_past, configuration_after, configuration_in, each_map, has_map, HasMoreThanAfter, HasOne, IsFirst, ProgramShape, StandingShape, Ticket}
+use Rattle.qs_levels.proofs.Common.{◌≡◌, ◌<◌, ◌≤◌, ℕ, suc, List, [], ◌∷◌, ◌++◌, length, refl, sym, ap, ◌∙◌, subst, arith, inl, inr, length-append, AllByRecursion, below_or_past, configuration_after}
+use Rattle.qs_levels.proofs.Common.{configuration_in, each_map, has_map, HasMoreThanAfter, HasOne, IsFirst, ProgramShape, StandingShape, Ticket, AreDistinct, IsAfter, IsOnward, IsLevel, HasMoreOnward}
+use Rattle.qs_levels.proofs.Common.{StandsFor, HasMoreFronts, rules}
 use Rattle.qs_standings.proofs.Pigeonhole.{at_most}
-use Rattle.qs_levels.specs.meaning.Fronts.{AreDistinct, IsAfter, IsOnward}
-use Rattle.qs_levels.specs.meaning.Levels.{IsLevel}
-use Rattle.qs_levels.specs.meaning.Onward.{HasMoreOnward, StandsFor}
 use Rattle.qs_levels.proofs.meaning.Reaching.{level_first, longer_each, none_later, onward_of}
-use Rattle.qs_levels.specs.MoreFronts.{HasMoreFronts}
 
 module _ (p : ProgramShape) (front : List Ticket) where
   -- all configurations are more, too
@@ -27,23 +24,11 @@ module _ (p : ProgramShape) (front : List Ticket) where
 
   -- there is no room for the next level
   pub more_on : (k blocks limit : ℕ) (level : List StandingShape) → IsLevel p front k level → k < blocks → HasMoreOnward p front level limit → HasMoreFronts p front blocks limit
-  more_on k blocks limit level is less more = record {
-    done = suc k;
-    within = omega (arith, less);
-    fronts = more.configurations;
-    count = more.different.count;
-    each = longer_each p front k level more.configurations is.each more.different.reached more.onward;
-    different = more.different.different;
-  }
+  more_on k blocks limit level is less more = search (rules, longer_each)
 
   -- a level has no more standings than there is room for
   in_level : (k : ℕ) (level : List StandingShape) → IsLevel p front k level → (s : StandingShape) → IsAfter p front k s → HasOne (λ t. configuration_in t ≡ configuration_in s) level
-  in_level k level is s after =
-      let rest = after.standing.reduced.rest in
-      let whole : s.order ≡ front ++ rest = after.standing.reduced.whole in
-      let long : length rest ≡ k = (let all = ap length whole ∙ length-append front rest in let by = after.long in omega (arith, all, by)) in
-      let on : IsOnward p front k rest = subst (λ n. IsOnward p front n rest) long (onward_of p front s.order after.standing.reduced after.standing.legal) in
-      has_map (λ t (f : StandsFor p (front ++ rest) t). f.there ∙ ap (configuration_after p) (sym whole) ∙ sym after.standing.stands) level (is.reached rest on)
+  in_level k level is s after = search (rules, length-append, has_map, onward_of)
 
   no_more : (k limit : ℕ) (level fronts : List StandingShape) → IsLevel p front k level → length level ≤ limit → length fronts ≡ suc limit → AllByRecursion (IsAfter p front k) fronts → AreDistinct fronts → ⊥
   no_more k limit level fronts is small count each different =

@@ -2,11 +2,8 @@
 -- order that comes up is after all that are kept.
 use Rattle.std.proofs.Common.{◌≡◌, ◌<◌, ◌+◌, ℕ, zero, suc, ◌%◌, ◌==◌, Bool, true, false, if◌then◌else◌, List, [], ◌∷◌, ◌++◌, length, get_or, take, drop, slice_index_or, refl, sym, ap, ◌∙◌, subst, arith, inl, inr}
 use Rattle.qs_levels.proofs.Common.{AllByRecursion, and_cases, AreSorted, before_onward, cases_eq, configuration_in, each_back, each_front, each_join, each_map, each_snoc, goes_on, GoesOn, has_map, has_some, HasOne, IsBefore, IsLongerBy, IsSound, IsStanding, length-map, pairs_front, pairs_last, ProgramShape, row_of, same_configurations, StandingShape, take_more, Ticket}
-use Rattle.qs_levels.specs.meaning.Fronts.{AreDistinct}
-use Rattle.qs_levels.specs.Founds.{found_in, no_standing}
-use Rattle.qs_levels.specs.meaning.Onward.{HasMoreOnward, IsOneLonger, order_on}
-use Rattle.qs_levels.specs.Leads.{AreKept, IsLedUpTo, IsOverfull, IsTableOf, TableShape, leads, leads_below}
-use Rattle.qs_levels.specs.Shares.{is_taken, mark_of, weight}
+use Rattle.qs_levels.proofs.Common.{AreDistinct, found_in, no_standing, HasMoreOnward, IsOneLonger, order_on, AreKept, IsLedUpTo, IsOverfull, IsTableOf, TableShape, leads, leads_below, is_taken}
+use Rattle.qs_levels.proofs.Common.{mark_of, weight, rules}
 use Rattle.qs_levels.proofs.Keeping.{up_to}
 use Rattle.qs_levels.proofs.meaning.Lists.{all_among, cut_at, flat_map_snoc, two_of}
 
@@ -69,9 +66,7 @@ module _ (p : ProgramShape) (front : List Ticket) where
       kept_ones kept.by_order
 
   pub kept_distinct : (orders : List (List Ticket)) (kept_ones : List StandingShape) → AreKept p front orders kept_ones → AreDistinct kept_ones
-  kept_distinct orders kept_ones kept =
-      two_of {Q = IsStanding p front} (λ s t. row_of p s ≡ row_of p t → ⊥) (λ s t. configuration_in s ≡ configuration_in t → ⊥)
-      (λ s t a b other e. other (same_configurations p front s t a b e)) kept_ones kept.standing kept.once
+  kept_distinct orders kept_ones kept = search (rules, same_configurations, two_of)
 
 module _ (p : ProgramShape) (front : List Ticket) (sound : IsSound p) (number count : ℕ) where
   -- all that are kept are before the next standing
@@ -126,8 +121,4 @@ module _ (p : ProgramShape) (front : List Ticket) (sound : IsSound p) (number co
 
 -- nothing was led on yet
 pub no_table : (p : ProgramShape) (front : List Ticket) (number count : ℕ) (ss : List StandingShape) → IsTableOf p front number count ss [] (record { rows = []; found = [] })
-no_table p front number count ss = record {
-  are_rows = refl;
-  kept = record { standing = tt; by_order = tt; once = tt; sorted = tt; reached = tt };
-  by_lead = tt;
-}
+no_table p front number count ss = search (rules)

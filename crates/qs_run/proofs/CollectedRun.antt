@@ -4,14 +4,13 @@
 -- comparisons. A run of threads has functions of numbers, and the workers are lists; so the deeds and the mind of a
 -- client, and the tasks and the object of a handler, are looked up in these lists.
 use Rattle.std.proofs.Common.{◌≡◌, ◌<◌, ℕ, true, false, List, [], Option, Some, None, length, slice_get, sym, ap, ◌∙◌, subst, arith, IsSome, rules}
-use Rattle.qs_played.proofs.Names.{length_all_zip, slice_get_past, AllByRecursion, HeldState, Ticket, ProgramShape, blocks_of, IsSound, reserves, IsLegal, ticket, fresh_held}
-use Rattle.qs_core_laws.proofs.Names.{ClientCode, IsCodeOf, AreCodes, Mode, IsLaneRun, Parcel, free, closed, Task, TasksLead, given_to, received_from, taken_by, Deed, RunsTo, got_from, reservations, sent_to, ClientModel, fresh_mind, mind_of, no_block_beyond, reserved_inside}
+use Rattle.qs_run.proofs.Names.{AllByRecursion, AreCodes, AreEndsJoined, AreOneLane, ClientCode, ClientHasRun, ClientModel, ClientWorker, Deed, HandlerHasServed, HandlerWorker, HasTakenAll}
+use Rattle.qs_run.proofs.Names.{HaveRun, HeldState, InView, IsBooked, IsCodeOf, IsLaneRun, IsLegal, IsSound, IsThreadRun, Mode, OutView, Parcel, ProgramShape, RunsTo, ShareView, Task}
+use Rattle.qs_run.proofs.Names.{TasksLead, ThreadRun, Ticket, TicketsView, blocks_of, closed, free, fresh_held, fresh_mind, given_to, got_from, length_all_zip, mind_of, no_block_beyond}
+use Rattle.qs_run.proofs.Names.{of_client, pushed_to, received_from, reservations, reserved_inside, reserves, sent_to, slice_get_past, taken_by, ticket}
 use Rattle.qs_handler.proofs.RunTurns.{handlers_take_turns}
 use Rattle.qs_run.specs.client.ClientThreads as running
-use Rattle.qs_desk.specs.audit.Tickets.{of_client, pushed_to}
-use Rattle.qs_run.proofs.Names.{ShareView, TicketsView, InView, OutView, AreOneLane, ClientHasRun, HandlerHasServed, HaveRun, ClientWorker, HandlerWorker, HasTakenAll, AreEndsJoined, IsBooked}
 use Rattle.qs_run.specs.handler.HandlerThreads as handling
-use Rattle.qs_run_laws.specs.audit.ThreadRuns.{IsThreadRun, ThreadRun}
 use Rattle.qs_run.proofs.ListPlaces.{IsBothAt, all_at, both_at, there}
 
 -- all that is known of the workers together once they are joined

@@ -1,10 +1,8 @@
 -- What a new desk has for each client and each handler of a program: a share of which nothing is booked, and a queue of
 -- which nothing is taken. The desk has eight places of each; those of the clients and handlers that the program has are
 -- filled, by their numbers.
-use Rattle.std.proofs.Common.{◌≡◌, ℕ, zero, suc, ◌<◌, ◌≤◌, true, nat_lt, if◌then◌else◌, [], map, length, get_or, Some, None, refl, ap, ◌∙◌, arith, rules, tests}
-use Rattle.qs_played.proofs.Names.{get_or-map, ProgramShape, most_clients, most_handlers, most_objects}
-use Rattle.qs_desk.specs.TicketQueues.{tickets_at}
-use Rattle.qs_desk.specs.Places.{places, share_at}
+use Rattle.std.proofs.Common.{◌≡◌, ℕ, ◌<◌, ◌≤◌, true, nat_lt, if◌then◌else◌, [], map, length, get_or, Some, None, ap, ◌∙◌, arith, rules, tests}
+use Rattle.qs_run.proofs.Names.{ProgramShape, get_or-map, most_clients, most_handlers, most_objects, places, share_at, tickets_at}
 
 place_at : (i : ℕ) → i < most_handlers → get_or places i 0 ≡ i
 place_at v less = grind arith

@@ -3,9 +3,8 @@
 -- that the program does not have.
 use Rattle.std.proofs.Common.{◌≡◌, ℕ, zero, suc, ◌<◌, ◌≤◌, ◌==◌, Bool, true, false, ◌||◌, List, [], ◌∷◌, length, get_or, refl, sym, ap, ◌∙◌, arith, rules}
 use Rattle.qs_meaning.proofs.Groups.{or_right}
-use Rattle.qs_played.proofs.Names.{AllByRecursion, list_any, false≢true, get_or_past, Ticket, is_in, IsSound, IsSoundBlock, IsSoundClient, Declared, reserves}
+use Rattle.qs_run.proofs.Names.{AllByRecursion, Declared, IsSound, IsSoundBlock, IsSoundClient, Ticket, ever_reserves, false≢true, get_or_past, is_in, list_any, reserves}
 use Rattle.qs_program.specs.audit.Program.{BlockShape, ClientShape, ProgramShape, client_at, no_block, no_client}
-use Rattle.qs_run.specs.Prepared.{ever_reserves}
 
 -- a test that some member passes, though what stands for no member does not
 any_at : {X : Type 0} (f : X → Bool) (xs : List X) (i : ℕ) (d : X) → f d ≡ false → f (get_or xs i d) ≡ true → list_any f xs ≡ true

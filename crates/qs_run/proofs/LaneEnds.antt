@@ -1,9 +1,8 @@
 -- The ends of lanes in their places while they are made. One loop goes through the clients and the other through the
 -- handlers of a client; the lanes so far are there and the places of the others are empty, and each new end changes its
 -- own place alone. In the end all lanes of the program are there, and beyond its clients and handlers there is none.
-use Rattle.std.proofs.Common.{◌≡◌, ℕ, ◌+◌, ◌<◌, ◌≤◌, Bool, false, List, Option, None, length, sym, subst, ◌∙◌, inl, inr, below_more, arith, rules}
-use Rattle.qs_played.proofs.Names.{cases_lt, ProgramShape, IsSound}
-use Rattle.qs_run.proofs.Names.{InView, OutView, AreNewEnds, ever_reserves, in_at, out_at}
+use Rattle.std.proofs.Common.{◌≡◌, ℕ, ◌+◌, ◌<◌, ◌≤◌, Bool, false, List, Option, None, length, below_more, arith, rules}
+use Rattle.qs_run.proofs.Names.{AreNewEnds, InView, IsSound, OutView, ProgramShape, ever_reserves, in_at, out_at}
 use Rattle.qs_run.proofs.EverReserved.{past_clients, past_handlers}
 
 -- the ends at two places are those that were put there

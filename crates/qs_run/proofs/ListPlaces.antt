@@ -1,10 +1,8 @@
 -- What is at the places of lists. The contracts of this crate say of all handlers, or of all clients, what holds at
 -- each place of a list, and the loops go through lists from the front, push to the end, or change one place after
 -- another. These lemmas say how each such step changes what holds at the places; they know nothing of workers.
-use Rattle.std.proofs.Common.{◌≡◌, ◌<◌, ◌≤◌, ◌+◌, ℕ, zero, suc, List, [], ◌∷◌, ◌++◌, Option, Some, None, length, map, drop, get_or, slice_get, slice_set, refl, sym, ap, ap₂, ◌∙◌, subst, arith, add-one, rules}
-use Rattle.qs_played.proofs.Names.{length_push, none-some, same_Some, slice_get-map, slice_get_read, AllByRecursion, AllZip}
-use Rattle.std.specs.Option.{option_map}
-use Rattle.qs_run.specs.Workers.{IsListOf}
+use Rattle.std.proofs.Common.{◌≡◌, ◌<◌, ◌≤◌, ◌+◌, ℕ, zero, suc, List, [], ◌∷◌, ◌++◌, Option, Some, None, length, map, drop, get_or, slice_get, slice_set, true≢false, refl, sym, ap, ap₂, ◌∙◌, subst, arith, add-one, rules}
+use Rattle.qs_run.proofs.Names.{AllByRecursion, AllZip, IsListOf, IsSome, length_push, none-some, option_map, same_Some, slice_get-map, slice_get_read}
 
 -- what holds of each member holds of the member at a place
 pub all_at : {X : Type 0} (P : X → Type 0) (xs : List X) (i : ℕ) (x : X) → AllByRecursion P xs → slice_get xs i ≡ Some x → P x
@@ -54,6 +52,16 @@ behind [] (suc i) x rest is = absurd (cc)
 -- and behind it is what is left from the next place on
 pub left_behind : {X : Type 0} (xs : List X) (i : ℕ) (x : X) (rest : List X) → drop i xs ≡ x ∷ rest → rest ≡ drop (i + 1) xs
 left_behind xs i x rest is = rw add-one (behind xs i x rest is)
+
+-- what was put where something was is there
+pub set_here : {X : Type 0} (xs : List (Option X)) (i : ℕ) (x : X) (new : Option X) → get_or xs i None ≡ Some x → get_or (slice_set xs i new) i None ≡ new
+set_here [] i x new is = absurd (cc)
+set_here (y ∷ ys) zero x new is = refl
+set_here (y ∷ ys) (suc i) x new is = set_here ys i x new is
+
+pub some_there : {X : Type 0} (o : Option X) → IsSome o → (x : X) × (o ≡ Some x)
+some_there None some = absurd (true≢false (sym some))
+some_there (Some x) some = (x, refl)
 
 -- what a member of a mapped list came from, and what a member is mapped to
 pub map_back : {X Y : Type 0} (f : X → Y) (xs : List X) (i : ℕ) (y : Y) → slice_get (map f xs) i ≡ Some y → (x : X) × (slice_get xs i ≡ Some x) × (f x ≡ y)

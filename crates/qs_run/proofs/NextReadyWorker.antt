@@ -3,11 +3,9 @@
 -- workers and the desk's places are filled for all of them, the next object or mind, the next row of lanes, and the
 -- tickets or the share are those of one handler or client.
 use Rattle.std.proofs.Common.{◌≡◌, ◌≢◌, ℕ, zero, suc, ◌+◌, ◌<◌, ◌≤◌, List, [], ◌∷◌, map, length, drop, get_or, set, Option, Some, None, sym, ap, ◌∙◌, arith, rules}
-use Rattle.qs_played.proofs.Names.{get_or-set_other, get_or_from_slice_get, none-some, same_Some, slice_get_within, HeldState, ProgramShape, IsSound}
-use Rattle.qs_core_laws.proofs.Names.{Mode, MindState}
-use Rattle.qs_desk.specs.TicketQueues.{tickets_at}
-use Rattle.qs_desk.specs.Places.{places, share_at}
-use Rattle.qs_run.proofs.Names.{ShareView, TicketsView, InView, OutView, ClientWorker, HandlerWorker, IsClientOf, IsHandlerOf, IsNewIn, IsNewOut, ever_reserves, in_at, out_at, IsListOf, IsMindAtStart, IsObjectAtStart}
+use Rattle.qs_run.proofs.Names.{ClientWorker, HandlerWorker, HeldState, InView, IsClientOf, IsHandlerOf, IsListOf, IsMindAtStart, IsNewIn, IsNewOut, IsObjectAtStart, IsSound, MindState}
+use Rattle.qs_run.proofs.Names.{Mode, OutView, ProgramShape, ShareView, TicketsView, ever_reserves, get_or-set_other, get_or_from_slice_get, in_at, none-some, out_at, places, same_Some}
+use Rattle.qs_run.proofs.Names.{share_at, slice_get_within, tickets_at}
 use Rattle.qs_run.proofs.ListPlaces.{at_front}
 use Rattle.qs_run.proofs.ReadyWorkers.{client_of, handler_of}
 use Rattle.qs_run.proofs.DeskStart.{share_there, tickets_there}

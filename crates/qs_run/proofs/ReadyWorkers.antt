@@ -2,14 +2,13 @@
 -- what it makes, and the threads are started with no more than that. Each worker has its own row of the ends of lanes;
 -- as there is a new lane wherever a block of a client reserves a handler, each worker has the lanes that its thread
 -- will ask for, and the two ends of each lane are in two workers.
-use Rattle.std.proofs.Common.{◌≡◌, ℕ, ◌<◌, true, List, [], Option, length, get_or, sym, ap, ◌∙◌, subst, arith, rules}
-use Rattle.qs_played.proofs.Names.{ProgramShape, IsSound, reserves, fresh_held}
-use Rattle.qs_core_laws.proofs.Names.{Mode, IsCodeOf, mind_of}
+use Rattle.std.proofs.Common.{◌≡◌, ℕ, true, List, [], Option, length, get_or, sym, ap, ◌∙◌, subst, arith, rules}
+use Rattle.qs_run.proofs.Names.{AreNewEnds, AreOneLane, AreReady, ClientWorker, HandlerWorker, InView, IsClientOf, IsCodeOf, IsHandlerOf, IsListOf, IsMindAtStart, IsNewIn, IsNewOut, IsSound}
+use Rattle.qs_run.proofs.Names.{Mode, OutView, ProgramShape, ShareView, ever_reserves, fresh_held, in_at, mind_of, out_at, reserves}
 use Rattle.qs_client.specs.audit.ClientModel as minds
 use Rattle.qs_run.specs.client.ClientThreads as running
 use Rattle.qs_run.specs.handler.HandlerThreads as handling
 use Rattle.qs_desk.specs.Tickets.{ticket}
-use Rattle.qs_run.proofs.Names.{ShareView, TicketsView, InView, OutView, AreOneLane, AreReady, IsListOf, IsMindAtStart, ClientWorker, HandlerWorker, AreNewEnds, IsClientOf, IsHandlerOf, IsNewIn, IsNewOut, ever_reserves, in_at, out_at}
 use Rattle.qs_run.proofs.EverReserved.{client_within, ever}
 
 module _ {D : Type 0} where

@@ -1,11 +1,9 @@
 -- How the answers of a starter add up: its answer for the next worker, and then its answers for those after it. They
 -- are wanted at each turn of the recursion that starts the workers. And what a lent starter has answered is what the
 -- starter itself has.
-use Rattle.std.proofs.Common.{◌≡◌, ◌+◌, ◌<◌, ℕ, zero, suc, Bool, true, List, [], ◌∷◌, ◌++◌, Option, Some, None, Result, Ok, Err, refl, sym, ap, ◌∙◌, subst, arith, rules}
+use Rattle.std.proofs.Common.{◌≡◌, ◌+◌, ◌<◌, ℕ, zero, suc, Bool, true, List, [], ◌∷◌, ◌++◌, Option, Some, None, Result, Ok, Err, refl, ap, subst, arith, rules}
 use Rattle.std.specs.Prelude.{IfErr, IfOk, replicate}
-use Rattle.qs_played.specs.declared.fault.RunFault.{RunFault}
-use Rattle.qs_played.specs.declared.fault.RunFault.TheVariants.{Memory, Threads}
-use Rattle.qs_run.proofs.Names.{WasAsked, WasAskedFrom, AreAnswers, IsRefusal, IsRefusedAStart, LetAllStart}
+use Rattle.qs_run.proofs.Names.{AreAnswers, IsRefusal, IsRefusedAStart, LetAllStart, RunFault, WasAsked, WasAskedFrom}
 use Rattle.qs_run.specs.declared.start.group.Ended.{Ended}
 
 module _ {S : Type 0} (Answers : S → ℕ → Bool → S → Type 0) where
@@ -64,11 +62,6 @@ module _ {S L N : Type 0} (Answers : S → ℕ → Bool → S → Type 0) (now :
   lent_chain n [] before after same = (ap name same, ap now same)
   lent_chain n (b ∷ bs) before after (next, answer, rest) = search (rules, lent_chain (suc n) bs next after rest)
 
-  -- all may start
-  pub lent_all : (many : ℕ) (before after : L) → LetAllStart LentAnswers 0 many before after
-      → (name after ≡ name before) × LetAllStart Answers 0 many (now before) (now after)
-  lent_all many before after answers = lent_chain 0 (replicate many true) before after answers
-
   -- the run is refused
   pub lent_refusal : (many : ℕ) (fault : RunFault) (before after : L) → IsRefusal LentAnswers many fault before after
       → (name after ≡ name before) × IsRefusal Answers many fault (now before) (now after)
@@ -78,5 +71,5 @@ module _ {S L N : Type 0} (Answers : S → ℕ → Bool → S → Type 0) (now :
   pub lent_run : {R : Type 0} (many : ℕ) (r : Result R RunFault) (before after : L) → IfOk r (λ _. LetAllStart LentAnswers 0 many before after)
       → IfErr r (λ fault. IsRefusal LentAnswers many fault before after)
       → (name after ≡ name before) × IfOk r (λ _. LetAllStart Answers 0 many (now before) (now after)) × IfErr r (λ fault. IsRefusal Answers many fault (now before) (now after))
-  lent_run many (Ok x) before after all none = let it = lent_all many before after all in (it.0, it.1, tt)
+  lent_run many (Ok x) before after all none = let it = lent_chain 0 (replicate many true) before after all in (it.0, it.1, tt)
   lent_run many (Err fault) before after none refused = let it = lent_refusal many fault before after refused in (it.0, tt, it.1)

@@ -1,7 +1,6 @@
 -- With one more worker that ended as the rest of its group did: all have worked, or all are as they were.
-use Rattle.std.proofs.Common.{◌≡◌, ◌+◌, ℕ, Bool, true≢false, List, [], ◌∷◌, ◌++◌, Result, Ok, Err, vec_len, vec_capacity, refl, sym, ap, ◌∙◌, arith, rules}
-use Rattle.qs_played.proofs.Names.{IfErr, IfOk, IsErr, AllZip}
-use Rattle.qs_run.proofs.Names.{IsWith, inside_of, HasFollowed}
+use Rattle.std.proofs.Common.{◌≡◌, ◌+◌, ℕ, Bool, true≢false, List, [], ◌∷◌, ◌++◌, Result, vec_len, vec_capacity, arith, rules}
+use Rattle.qs_run.proofs.Names.{AllZip, HasFollowed, IfErr, IfOk, IsErr, IsWith, inside_of}
 use Rattle.qs_run.specs.declared.start.group.Group.{Group}
 
 module _ {V W : Type 0} (HasWorked : V → W → Type 0) where

@@ -1,32 +1,14 @@
 -- The text of the optimised machine's queues, part by part: a parcel and its chunk, a lane, the tickets before a
 -- handler, what a client waits for, and all of what is told.
 use Rattle.std.proofs.Common.{◌≡◌, ◌<◌, ℕ, zero, suc, Bool, true, false, List, [], ◌∷◌, ◌++◌, cond, drop, length, get_or, take, Option, Some, None, refl, ap, sym, ◌∙◌, ◌+◌, nat_lt, nat_eq, arith, codes}
-use Rattle.std.specs.Prelude.{is_some}
-use Rattle.std.proofs.Math.Seq.{drop-cons}
-use Rattle.qs_objects.specs.audit.Journals.{HeldState}
-use Rattle.qs_objects.specs.declared.Request.{Request}
-use Rattle.qs_program.specs.audit.Program.{ProgramShape, client_at}
-use Rattle.qs_syncset.specs.declared.mode.Mode.{Mode}
-use Rattle.qs_chunk.specs.audit.Batch.{Batch}
-use Rattle.qs_chunk.specs.declared.parcel.Parcel.{Parcel}
-use Rattle.qs_chunk.specs.declared.parcel.Parcel.TheVariants.{Work}
-use Rattle.qs_played.specs.audit.Played.{Played}
-use Rattle.qs_played.specs.audit.Schedule.{schedule}
-use Rattle.qs_played.specs.declared.schedule.actor.Actor.{Actor}
-use Rattle.qs_played.proofs.Lists.{get_or-any}
-use Rattle.qs_core_laws.specs.audit.CoreSchedule.{core_played}
+use Rattle.qs_steps.proofs.Names.{Actor, Batch, CoreState, Form, HeldState, IsPlayedOn, IsToldIn, Mode, Parcel, Played, ProgramShape, Request, Wanted, Work, client_at, codes_of, core_of}
+use Rattle.qs_steps.proofs.Names.{core_played, drop-cons, get_or-any, is_some, requests_in, schedule, waits_at, waits_nothing}
 use Rattle.qs_core_laws.specs.CoreSchedule.{core_scheduled}
 use Rattle.qs_core.specs.parts.CarriedRequests.{first_requests, requests_in as carried}
-use Rattle.qs_core.specs.state.CoreState.{CoreState, IsPlayedOn, codes_of, core_of}
 use Rattle.qs_steps.specs.CoreQueues.{chunk_in, core_queues, gap_in, lane_in, parcel_in, parcels_in, queues_in, wait_for_chunk, wait_for_object}
 use Rattle.qs_steps.specs.CoreSteps.{core_steps}
-use Rattle.qs_steps.specs.Forms.{requests_in}
-use Rattle.qs_steps.specs.Queues.{waits_at, waits_nothing}
-use Rattle.qs_steps.specs.declared.wanted.Form.{Form}
 use Rattle.qs_steps.specs.declared.wanted.Form.TheVariants as form
 use Rattle.qs_steps.proofs.Queues.{elements_more, listed_more}
-use Rattle.qs_steps.specs.Telling.{IsToldIn}
-use Rattle.qs_steps.specs.declared.wanted.Wanted.{Wanted}
 
 module _ (f : Form) (p : ProgramShape) where
   module _ (down : List Parcel) (place : ℕ) (inside : place < length down) (x : Parcel) (is : x ≡ get_or down place x) where

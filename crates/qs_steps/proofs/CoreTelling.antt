@@ -1,17 +1,8 @@
 -- Where a schedule of the optimised machine leads from a fresh machine, and what is told of it.
 use Rattle.std.proofs.Common.{◌≡◌, ℕ, List, ap, sym, subst, ◌∙◌}
-use Rattle.qs_program.specs.audit.Program.{ProgramShape}
-use Rattle.qs_syncset.specs.declared.mode.Mode.{Mode}
-use Rattle.qs_played.specs.audit.Schedule.{schedule}
-use Rattle.qs_played.specs.declared.schedule.actor.Actor.{Actor}
-use Rattle.qs_core_laws.specs.audit.Core.{core_step}
-use Rattle.qs_syncset.specs.audit.Codes.{AreCodes}
-use Rattle.qs_core_laws.specs.audit.CoreSchedule.{core_plays}
-use Rattle.qs_core.specs.state.CoreState.{CoreState, IsFreshCore, IsPlayedOn, codes_of}
-use Rattle.qs_steps.specs.Told.{steps_by}
+use Rattle.qs_steps.proofs.Names.{Actor, AreCodes, CoreKept, CoreState, Form, IsFreshCore, IsPlayedOn, LeadTo, Mode, ProgramShape, codes_of, core_plays, core_step, core_view, schedule}
+use Rattle.qs_steps.proofs.Names.{steps_by, steps_from}
 use Rattle.qs_steps.specs.CoreSteps.{core_steps, core_told}
-use Rattle.qs_steps.specs.declared.wanted.Form.{Form}
-use Rattle.qs_steps.specs.Telling.{CoreKept, LeadTo, core_view, steps_from}
 
 module _ (p : ProgramShape) (mode : Mode) (size : ℕ) (picks : List Actor) (rounds : ℕ) (s new : CoreState) (fresh : IsFreshCore p mode size s) (lead : LeadTo core_view (schedule p picks rounds) s new) where
   same_code : codes_of s ≡ codes_of new

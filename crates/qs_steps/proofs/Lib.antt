@@ -6,3 +6,4 @@ pub mod NamedSteps
 pub mod Queues
 pub mod CoreQueuesText
 pub mod OrdersTold
+pub mod Names

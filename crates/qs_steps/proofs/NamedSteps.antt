@@ -1,18 +1,9 @@
 -- The lines of a list of actors, made one by one beside the text: they are the text's, those that tell a step are of
 -- the actors that stepped, and each has the number and the actor that was asked. For any machine, by induction on the
 -- actors; then for picks and rounds.
-use Rattle.std.proofs.Common.{◌≡◌, ◌<◌, ◌≤◌, ℕ, suc, ◌+◌, Bool, true, false, List, [], ◌∷◌, ◌++◌, flat_map, length, get_or, Option, Some, None, refl, ap, sym, ◌∙◌, append_assoc, append-nil, arith, if◌then◌else◌, subst}
-use Rattle.std.specs.List.{AllByRecursion}
-use Rattle.std.proofs.lemmas.Grind.{flat_map-append}
-use Rattle.std.proofs.lemmas.List.{get_or-append-add, get_or_append_left, length-append}
-use Rattle.qs_meaning.proofs.Each.{each_join, each_map}
-use Rattle.qs_program.specs.audit.Program.{ProgramShape}
-use Rattle.qs_played.specs.audit.Schedule.{actors_of, or_stay, plays_by, rounds_of}
-use Rattle.qs_played.specs.declared.schedule.actor.Actor.{Actor}
-use Rattle.qs_plain_laws.specs.audit.Plain.{begin, step}
-use Rattle.qs_core_laws.specs.audit.Core.{core_begin, core_step}
-use Rattle.qs_steps.specs.Told.{idle_told, line_of, lines_by, stepper, steppers_by}
-use Rattle.qs_steps.specs.declared.wanted.Form.{Form}
+use Rattle.std.proofs.Common.{◌≡◌, ◌<◌, ◌≤◌, ℕ, suc, ◌+◌, Bool, true, false, List, [], ◌∷◌, ◌++◌, flat_map, length, get_or, Option, Some, None, refl, ap, sym, ◌∙◌, append_assoc, append-nil, arith, rules, if◌then◌else◌, subst}
+use Rattle.qs_steps.proofs.Names.{Actor, AllByRecursion, Form, ProgramShape, actors_of, begin, core_begin, core_step, each_join, each_map, flat_map-append, get_or-append-add}
+use Rattle.qs_steps.proofs.Names.{get_or_append_left, idle_told, length-append, line_of, lines_by, or_stay, plays_by, rounds_of, step, stepper, steppers_by}
 use Rattle.qs_steps.specs.PlainSteps.{plain_steps, plain_told}
 use Rattle.qs_steps.specs.CoreSteps.{core_steps, core_told}
 use Rattle.qs_steps.specs.StepNames.{AreLinesOf, IsAsked, IsRising, Line, SaysNothing, StepsAreNamed, line_text, named}
@@ -51,9 +42,7 @@ module _ {S : Type 0} (step : S → Actor → Option S) (f : Form) (p : ProgramS
 
   one_text : (b : Bool) (n : ℕ) (s : S) (a : Actor) (o : Option S) → line_of step f p told b n s a o ≡ flat_map (line_text f p) (line_made b n s a o)
   unfolding line_made
-  one_text b n s a (Some t) = sym (append-nil _)
-  one_text true n s a None = sym (append-nil _)
-  one_text false n s a None = refl
+  one_text b n s a v = grind (arith, append-nil)
 
   made_text : (b : Bool) (n : ℕ) (actors : List Actor) (s : S) → lines_by step f p told b n actors s ≡ flat_map (line_text f p) (lines_made b n actors s)
   unfolding lines_made
@@ -64,9 +53,7 @@ module _ {S : Type 0} (step : S → Actor → Option S) (f : Form) (p : ProgramS
 
   one_named : (b : Bool) (n : ℕ) (s : S) (a : Actor) (o : Option S) → named (line_made b n s a o) ≡ stepper step a o
   unfolding line_made
-  one_named b n s a (Some t) = refl
-  one_named true n s a None = refl
-  one_named false n s a None = refl
+  one_named b n s a v = grind arith
 
   made_named : (b : Bool) (n : ℕ) (actors : List Actor) (s : S) → named (lines_made b n actors s) ≡ steppers_by step actors s
   unfolding lines_made
@@ -77,9 +64,7 @@ module _ {S : Type 0} (step : S → Actor → Option S) (f : Form) (p : ProgramS
 
   one_idle : (b : Bool) (n : ℕ) (s : S) (a : Actor) (o : Option S) → AllByRecursion (SaysNothing f) (line_made b n s a o)
   unfolding line_made
-  one_idle b n s a (Some t) = (λ e. cc, tt)
-  one_idle true n s a None = (λ e. refl, tt)
-  one_idle false n s a None = tt
+  one_idle b n s a v = search rules
 
   made_idle : (b : Bool) (n : ℕ) (actors : List Actor) (s : S) → AllByRecursion (SaysNothing f) (lines_made b n actors s)
   unfolding lines_made
@@ -89,9 +74,7 @@ module _ {S : Type 0} (step : S → Actor → Option S) (f : Form) (p : ProgramS
 
   one_at : (b : Bool) (n : ℕ) (s : S) (a : Actor) (rest : List Actor) (o : Option S) → AllByRecursion (IsAt n (a ∷ rest)) (line_made b n s a o)
   unfolding line_made
-  one_at b n s a rest (Some t) = (here_first n a rest true (told s a), tt)
-  one_at true n s a rest None = (here_first n a rest false (idle_told f), tt)
-  one_at false n s a rest None = tt
+  one_at b n s a rest v = search (rules, here_first)
 
   made_at : (b : Bool) (n : ℕ) (actors : List Actor) (s : S) → AllByRecursion (IsAt n actors) (lines_made b n actors s)
   unfolding lines_made
@@ -103,9 +86,7 @@ module _ {S : Type 0} (step : S → Actor → Option S) (f : Form) (p : ProgramS
 
   one_rises : (b : Bool) (n : ℕ) (s : S) (a : Actor) (o : Option S) (ks : List Line) → IsRising (n + 1) ks → IsRising n (line_made b n s a o ++ ks)
   unfolding line_made
-  one_rises b n s a (Some t) ks rising = (omega arith, rising)
-  one_rises true n s a None ks rising = (omega arith, rising)
-  one_rises false n s a None ks rising = rises_sooner n (n + 1) ks (omega arith) rising
+  one_rises b n s a v ks rising = grind (arith, rises_sooner)
 
   made_rises : (b : Bool) (n : ℕ) (actors : List Actor) (s : S) (ks : List Line) → IsRising (n + length actors) ks → IsRising n (lines_made b n actors s ++ ks)
   unfolding lines_made

@@ -1,41 +1,18 @@
 -- What is told of whole blocks that run one after another: further actors are told behind those before, and in the end
 -- the lines of all are those of the order. The loops over the turns of a block and over the blocks stand on this.
-use Rattle.std.proofs.Common.{◌≡◌, ◌<◌, ◌∙◌, ◌+◌, ◌++◌, ◌∷◌, [], ℕ, Bool, true, false, List, length, refl, sym, ap, subst, cond, append_assoc, append-nil, arith}
-use Rattle.std.proofs.lemmas.List.{length-append}
-use Rattle.qs_objects.specs.declared.held.Ticket.{Ticket}
+use Rattle.std.proofs.Common.{◌≡◌, ◌∙◌, ◌+◌, ◌++◌, ◌∷◌, [], ℕ, false, List, length, refl, sym, ap, subst, cond, append_assoc, append-nil, arith}
+use Rattle.qs_steps.proofs.Names.{Actor, AreCodes, AreTold, ClientCode, CoreGoes, CoreKept, CoreState, GoesOn, HasGoneOn, IsCoreQuiet, IsFit, IsFreshCore, IsOrderTold}
+use Rattle.qs_steps.proofs.Names.{IsOrderToldIn, IsQuiet, LeadTo, Mode, PlayOrderIn, Played, ProgramShape, RulesState, View, Wanted, WasReached}
+use Rattle.qs_steps.proofs.Names.{begin, codes_of, configuration_after, core_begin, core_of, core_order_steps, core_played, core_plays, core_step, core_told, core_view}
+use Rattle.qs_steps.proofs.Names.{length-append, lines_by, named_append, order_of, plain_of, plain_order_steps, plain_told, played_of, plays, rules_view}
+use Rattle.qs_steps.proofs.Names.{step, turn_of}
 use Rattle.qs_program.specs.Sound.{IsSound}
-use Rattle.qs_program.specs.audit.Program.{ProgramShape}
-use Rattle.qs_meaning.specs.audit.Configurations.{configuration_after}
-use Rattle.qs_serial.specs.audit.NamedOrders.{order_from, order_of}
-use Rattle.qs_syncset.specs.audit.Codes.{AreCodes, ClientCode}
-use Rattle.qs_syncset.specs.declared.mode.Mode.{Mode}
-use Rattle.qs_played.specs.audit.Played.{Played}
-use Rattle.qs_played.specs.audit.Schedule.{all_named}
-use Rattle.qs_played.specs.declared.schedule.actor.Actor.{Actor}
-use Rattle.qs_plain_laws.specs.audit.Plain.{Plain, begin, step}
-use Rattle.qs_plain_laws.specs.audit.PlainSchedule.{played_of, plays}
-use Rattle.qs_plain_laws.specs.orders.Quiet.{IsQuiet}
-use Rattle.qs_plain.specs.Rules.{RulesState, plain_of}
 use Rattle.qs_plain.proofs.Blocks as rules
-use Rattle.qs_core_laws.specs.audit.Core.{Core, core_begin, core_step}
-use Rattle.qs_core_laws.specs.audit.CoreSchedule.{core_played, core_plays}
-use Rattle.qs_core_laws.specs.orders.CoreQuiet.{IsCoreQuiet, turn_of}
 use Rattle.qs_core_laws.proofs.CoreSteps.{HasInvariant, run_kept}
-use Rattle.qs_core_laws.proofs.orders.BlocksPlayed.{named_append}
-use Rattle.qs_core.specs.CoreOrders.{CoreGoes}
-use Rattle.qs_core.specs.state.CoreState.{CoreState, IsFreshCore, IsPlayedOn, codes_of, core_of}
-use Rattle.qs_core.proofs.CoreBlocks.{IsFit}
 use Rattle.qs_core.proofs.CoreBlocks as optimised
 use Rattle.qs_steps.specs.declared.orders.Lines.{Lines}
-use Rattle.qs_steps.specs.declared.wanted.Form.{Form}
-use Rattle.qs_steps.specs.declared.wanted.Wanted.{Wanted}
 use Rattle.qs_steps.specs.CoreQueues as core
-use Rattle.qs_steps.specs.CoreSteps.{core_told}
-use Rattle.qs_steps.specs.Orders.{GoesOn, HasGoneOn, IsOrderTold, IsOrderToldIn, PlayOrder, PlayOrderIn, WasReached, core_order_queues, core_order_steps, plain_order_queues, plain_order_steps}
 use Rattle.qs_steps.specs.PlainQueues as plain
-use Rattle.qs_steps.specs.PlainSteps.{plain_told}
-use Rattle.qs_steps.specs.Telling.{AreTold, CoreKept, LeadTo, View, core_view, rules_view}
-use Rattle.qs_steps.specs.Told.{lines_by}
 use Rattle.qs_steps.proofs.TellingRuns.{more_told, none_lead}
 
 module _ {M : Type 0} (v : View M) (p : ProgramShape) where
@@ -78,8 +55,8 @@ goes_by_lead actors s t lead = record {
 }
 
 -- what holds of each state of the optimised machine that was reached
-pub fit_of_played : (p : ProgramShape) (mode : Mode) (size : ℕ) (actors : List Actor) (s : CoreState) → IsSound p → IsPlayedOn p mode size actors s → IsFit s
-fit_of_played p mode size actors s sound on =
+pub fit_of_reached : (p : ProgramShape) (s : CoreState) → IsSound p → WasReached p s → IsFit s
+fit_of_reached p s sound (mode, size, actors, on) =
     let whole : IsSound s.program = subst IsSound (sym on.program) sound in
     let codes : AreCodes s.program mode (codes_of s) = subst (λ q. AreCodes q mode (codes_of s)) (sym on.program) on.codes in
     record {
@@ -90,9 +67,6 @@ fit_of_played p mode size actors s sound on =
           ((λ k. core_plays (codes_of s) (on.size k) actors (core_begin (on.program k))) ∙ sym on.played)
           (run_kept s.program whole mode (codes_of s) codes s.size actors);
     }
-
-pub fit_of_reached : (p : ProgramShape) (s : CoreState) → IsSound p → WasReached p s → IsFit s
-fit_of_reached p s sound (mode, size, actors, on) = fit_of_played p mode size actors s sound on
 
 -- a turn that was told
 pub turn_goes : (p : ProgramShape) (s t : CoreState) (c : ℕ) (turn : List Actor) (old new : Lines) → s.program ≡ p → turn ≡ turn_of p c → GoesOn core_view p turn old s new t

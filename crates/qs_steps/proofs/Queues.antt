@@ -1,23 +1,17 @@
 -- The texts of queues as the code writes them: one part after another, one number more of a range, and one parcel more
 -- of a lane; and what the code answers of a client is what the definitions say of it.
 use Rattle.std.proofs.Common.{◌≡◌, ◌<◌, ◌≤◌, ◌==◌, ℕ, suc, ◌+◌, ◌-◌, Bool, true, false, List, [], ◌∷◌, ◌++◌, cond, drop, length, map, get_or, take, Option, Some, None, refl, ap, sym, ◌∙◌, add-one, append-nil, append_assoc, zero-add, arith, codes, flat_map, nat_eq}
-use Rattle.std.specs.Prelude.{MatchOption}
-use Rattle.std.specs.List.{range_with_len}
-use Rattle.std.proofs.lemmas.Bool.Decides.{nat_tests}
-use Rattle.std.proofs.lemmas.Grind.{flat_map-append}
-use Rattle.std.proofs.lemmas.List.{flat_map_more, length-take-le, take_all, take_more}
+use Rattle.qs_steps.proofs.Names.{Client, Form, MatchOption, ProgramShape, StageOfClient, awaited_by, awaited_in, comma_at, flat_map-append, flat_map_more, length-take-le, listed, nat_tests}
+use Rattle.qs_steps.proofs.Names.{Err, Ok, OnOk, Result, numbered, only_json, range_more, range_with_len, take_all, take_more}
 use Rattle.std.proofs.lemmas.List.Folds.{flat_map-map}
 use Rattle.qs_objects.specs.declared.held.Ticket.{Ticket}
-use Rattle.qs_program.specs.audit.Program.{ProgramShape}
-use Rattle.qs_played.proofs.Lists.{range_more}
-use Rattle.qs_plain_laws.specs.audit.Plain.{Client, StageOfClient}
-use Rattle.qs_plain.specs.Awaiting.{awaited_by}
-use Rattle.qs_json.specs.audit.Pieces.{comma_at}
-use Rattle.qs_steps.specs.Forms.{listed, numbered, only_json}
 use Rattle.qs_steps.specs.PlainQueues.{spaced, wait_in}
-use Rattle.qs_steps.specs.Telling.{awaited_in}
-use Rattle.qs_steps.specs.declared.wanted.Form.{Form}
 use Rattle.qs_steps.specs.declared.wanted.Form.TheVariants as form
+
+-- what follows from a success
+pub on_ok : {A B : Type 0} {P Q : Type 0} (o : Result A B) → OnOk o P → (P → Q) → OnOk o Q
+on_ok (Ok x) holds then = then holds
+on_ok (Err e) holds then = tt
 
 -- one part after another
 pub joined : (before mid after head tail : List ℕ) → mid ≡ before ++ head → after ≡ mid ++ tail → after ≡ before ++ (head ++ tail)
@@ -40,9 +34,6 @@ filled_list (x ∷ xs) b is fails = omega arith
 
 -- the items of a private queue, in two lists
 module _ {A : Type 0} (text : A → List ℕ) where
-  pub spaced_none : (xs : List A) → xs ≡ [] → spaced text xs ≡ codes " -"
-  spaced_none xs is = ap (spaced text) is
-
   pub spaced_both : (first rest xs : List A) → 0 < length first → first ++ rest ≡ xs → spaced text xs ≡ flat_map (λ y. codes " " ++ text y) first ++ flat_map (λ y. codes " " ++ text y) rest
   spaced_both [] rest xs some same = absurd (omega (arith, some))
   spaced_both (x ∷ first) rest xs some same = ap (spaced text) (sym same) ∙ flat_map-append (λ y. codes " " ++ text y) (x ∷ first) rest

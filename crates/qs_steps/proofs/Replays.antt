@@ -1,25 +1,12 @@
 -- The actors that stepped, stepped again: where nobody stepped the state stays, so they come to the same state.
-use Rattle.std.proofs.Common.{◌≡◌, ◌≤◌, ℕ, zero, suc, ◌+◌, true, nat_lt, List, [], ◌∷◌, ◌++◌, map, length, Option, Some, None, refl, ap, sym, ◌∙◌, arith}
-use Rattle.std.specs.List.{range_with_len}
-use Rattle.std.proofs.lemmas.Bool.Decides.{nat_tests}
-use Rattle.qs_objects.proofs.Choices.{and_cases}
+use Rattle.std.proofs.Common.{◌≡◌, ◌≤◌, ℕ, zero, suc, ◌+◌, true, List, [], ◌∷◌, ◌++◌, map, length, Option, Some, None, refl, ap, append-nil, sym, ◌∙◌, ◌<◌, arith}
+use Rattle.qs_steps.proofs.Names.{Actor, ProgramShape, actors_of, all_named, and_cases, begin, core_begin, core_played, core_step, names_actor, nat_tests, or_stay, played_of, plays_by}
+use Rattle.qs_steps.proofs.Names.{range_with_len, rounds_of, schedule, step, stepper, steppers_by}
 use Rattle.qs_meaning.proofs.Groups.{both_true}
-use Rattle.qs_program.specs.audit.Program.{ProgramShape}
-use Rattle.qs_played.specs.audit.Schedule.{actors_of, all_named, names_actor, or_stay, plays_by, rounds_of, schedule}
-use Rattle.qs_played.specs.declared.schedule.actor.Actor.{Actor}
 use Rattle.qs_played.specs.declared.schedule.actor.Actor.TheVariants as actor
-use Rattle.qs_plain_laws.specs.audit.Plain.{begin, step}
-use Rattle.qs_plain_laws.specs.audit.PlainSchedule.{played_of}
 use Rattle.qs_plain_laws.specs.PlainSchedule.{scheduled}
-use Rattle.qs_core_laws.specs.audit.Core.{core_begin, core_step}
-use Rattle.qs_core_laws.specs.audit.CoreSchedule.{core_played}
 use Rattle.qs_core_laws.specs.CoreSchedule.{core_scheduled}
 use Rattle.qs_steps.specs.StepReplays.{CoreStepsReplay, PlainStepsReplay}
-use Rattle.qs_steps.specs.Told.{stepper, steppers_by}
-
-append_none : (xs : List Actor) → xs ++ [] ≡ xs
-append_none [] = refl
-append_none (x ∷ xs) = ap (λ ys. x ∷ ys) (append_none xs)
 
 module _ {S : Type 0} (step : S → Actor → Option S) where
   replay_step : (a : Actor) (rest : List Actor) (s : S) (o : Option S) → step s a ≡ o
@@ -39,22 +26,16 @@ module _ (p : ProgramShape) where
       let c = and_cases (names_actor p a) (all_named p xs) x in
       both_true (names_actor p a) (all_named p (xs ++ ys)) c.0 (named_both xs ys c.1 y)
 
-  clients_named : (a n : ℕ) → a + n ≤ length p.clients → all_named p (map actor.Client (range_with_len a n)) ≡ true
-  clients_named a zero few = refl
-  clients_named a (suc n) few =
-      let here : nat_lt a (length p.clients) ≡ true = grind (arith, nat_tests, few) in
-      both_true (nat_lt a (length p.clients)) (all_named p (map actor.Client (range_with_len (a + 1) n))) here (clients_named (a + 1) n (omega (arith, few)))
-
-  handlers_named : (a n : ℕ) → a + n ≤ length p.objects → all_named p (map actor.Handler (range_with_len a n)) ≡ true
-  handlers_named a zero few = refl
-  handlers_named a (suc n) few =
-      let here : nat_lt a (length p.objects) ≡ true = grind (arith, nat_tests, few) in
-      both_true (nat_lt a (length p.objects)) (all_named p (map actor.Handler (range_with_len (a + 1) n))) here (handlers_named (a + 1) n (omega (arith, few)))
+  row_named : (f : ℕ → Actor) (many : ℕ) → ((i : ℕ) → i < many → names_actor p (f i) ≡ true) → (a n : ℕ) → a + n ≤ many → all_named p (map f (range_with_len a n)) ≡ true
+  row_named f many each a zero few = refl
+  row_named f many each a (suc n) few =
+      both_true (names_actor p (f a)) (all_named p (map f (range_with_len (a + 1) n))) (each a (omega (arith, few))) (row_named f many each (a + 1) n (omega (arith, few)))
 
   turn_named : all_named p (actors_of p) ≡ true
   turn_named =
       named_both (map actor.Client (range_with_len 0 (length p.clients))) (map actor.Handler (range_with_len 0 (length p.objects)))
-      (clients_named 0 (length p.clients) (omega arith)) (handlers_named 0 (length p.objects) (omega arith))
+      (row_named actor.Client (length p.clients) (λ i few. grind (arith, nat_tests)) 0 (length p.clients) (omega arith))
+      (row_named actor.Handler (length p.objects) (λ i few. grind (arith, nat_tests)) 0 (length p.objects) (omega arith))
 
   rounds_named : (n : ℕ) → all_named p (rounds_of n (actors_of p)) ≡ true
   rounds_named zero = refl
@@ -76,7 +57,7 @@ module _ (p : ProgramShape) where
       steppers_named step (schedule p picks rounds) s (named_both picks (rounds_of rounds (actors_of p)) named (rounds_named rounds))
 
   replayed : {S : Type 0} (step : S → Actor → Option S) (actors : List Actor) (s : S) → plays_by step (schedule p (steppers_by step actors s) 0) s ≡ plays_by step actors s
-  replayed step actors s = ap (λ xs. plays_by step xs s) (append_none (steppers_by step actors s)) ∙ replay step actors s
+  replayed step actors s = ap (λ xs. plays_by step xs s) (append-nil (steppers_by step actors s)) ∙ replay step actors s
 
 pub plain_replay : PlainStepsReplay
 unfolding scheduled

@@ -2,18 +2,9 @@
 -- round and rounds keep what they have told so far by these; and where nobody of a round steps, further rounds have no
 -- lines and change nothing.
 use Rattle.std.proofs.Common.{◌≡◌, ℕ, zero, suc, ◌+◌, ◌*◌, Bool, false, true, List, [], ◌∷◌, ◌++◌, map, length, Option, Some, None, refl, ap, sym, subst, ◌∙◌, append_assoc, append-nil, arith}
-use Rattle.std.specs.Prelude.{Result, Ok, Err, OnOk}
-use Rattle.std.specs.List.{range_with_len}
-use Rattle.std.proofs.lemmas.List.{length-append}
-use Rattle.std.proofs.lemmas.List.FromFn.{length-map-range_with_len}
-use Rattle.qs_program.specs.audit.Program.{ProgramShape}
-use Rattle.qs_played.specs.audit.Schedule.{actors_of, or_stay, plays_by, rounds_of}
-use Rattle.qs_played.specs.declared.schedule.actor.Actor.{Actor}
+use Rattle.qs_steps.proofs.Names.{Actor, AreTold, Form, IsAsked, IsScheduleTold, LeadTo, NoneStep, ProgramShape, View, actors_of, asked_line, length-append}
+use Rattle.qs_steps.proofs.Names.{length-map-range_with_len, line_of, lines_by, or_stay, plays_by, plays_by-append, range_with_len, rounds_of, row_more, stepper, steppers_by}
 use Rattle.qs_played.specs.declared.schedule.actor.Actor.TheVariants as actor
-use Rattle.qs_played.proofs.Playing.{plays_by-append, row_more}
-use Rattle.qs_steps.specs.Told.{line_of, lines_by, stepper, steppers_by}
-use Rattle.qs_steps.specs.declared.wanted.Form.{Form}
-use Rattle.qs_steps.specs.Telling.{AreTold, IsAsked, IsScheduleTold, LeadTo, NoneStep, View, asked_line}
 
 pub length-turn : (p : ProgramShape) → length (actors_of p) ≡ length p.clients + length p.objects
 length-turn p = omega (arith, length-append (map actor.Client (range_with_len 0 (length p.clients))) (map actor.Handler (range_with_len 0 (length p.objects))), length-map-range_with_len actor.Client 0 (length p.clients), length-map-range_with_len actor.Handler 0 (length p.objects))
@@ -29,11 +20,6 @@ number_after p picks i from clients objects is many others =
     let long : length (rounds_of i (actors_of p)) ≡ i * (length p.clients + length p.objects) = length-rounds (actors_of p) i ∙ ap (λ m. i * m) (length-turn p) in
     let asked : from * (clients + objects) ≡ i * (length p.clients + length p.objects) = λ k. is k * (many k + others k) in
     omega (arith, long, asked)
-
--- what follows from a success
-pub on_ok : {A B : Type 0} {P Q : Type 0} (o : Result A B) → OnOk o P → (P → Q) → OnOk o Q
-on_ok (Ok x) holds then = then holds
-on_ok (Err e) holds then = tt
 
 pub rounds_on : (turn : List Actor) (n k : ℕ) → rounds_of (n + k) turn ≡ rounds_of n turn ++ rounds_of k turn
 rounds_on turn n zero = let none : n + 0 ≡ n = omega arith in ap (λ m. rounds_of m turn) none ∙ sym (append-nil (rounds_of n turn))

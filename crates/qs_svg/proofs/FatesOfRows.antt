@@ -1,9 +1,6 @@
 -- What became of all requests has a row for each object, which is what became of that object's.
-use Rattle.std.proofs.Common.{◌≡◌, ℕ, ◌<◌, [], length, get_or, arith}
+use Rattle.qs_svg.proofs.Common.{◌≡◌, ℕ, ◌<◌, [], length, get_or, arith, ProgramShape, Played, fates_of}
 use Rattle.std.proofs.lemmas.List.FromFn.{get_or-map-range_with_len, length-map-range_with_len}
-use Rattle.qs_program.specs.audit.Program.{ProgramShape}
-use Rattle.qs_played.specs.audit.Played.{Played}
-use Rattle.qs_text.specs.audit.fates.Fates.{fates_of}
 use Rattle.qs_text.specs.fates.Fates.{all_fates}
 
 pub rows_of_fates : (p : ProgramShape) (run : Played) → length (all_fates p run) ≡ length p.objects

@@ -1,7 +1,5 @@
 -- No client has more than one line of its variables.
-use Rattle.std.proofs.Common.{◌≡◌, ◌≤◌, ◌+◌, ℕ, zero, suc, Bool, true, false, if◌then◌else◌, arith}
-use Rattle.qs_program.specs.audit.Program.{ProgramShape}
-use Rattle.qs_svg.specs.audit.RunSvg.{has_variables, lines_before}
+use Rattle.qs_svg.proofs.Common.{◌≡◌, ◌≤◌, ◌+◌, ℕ, zero, suc, Bool, true, false, if◌then◌else◌, arith, ProgramShape, has_variables, lines_before}
 
 one_at_most : (b : Bool) → (if b then 1 else 0) ≤ 1
 one_at_most true = omega arith

@@ -1,26 +1,16 @@
 -- No picture has more shapes than it may have: a stretch has its frame, two shapes for each of the requests that are
 -- drawn, and three texts. Where few stretches are drawn, each has up to 12 requests, and else 4; so both stay below the
 -- limit.
-use Rattle.std.proofs.Common.{◌≡◌, ℕ, zero, suc, ◌+◌, ◌*◌, ◌-◌, ◌≤◌, min, List, [], ◌∷◌, length, refl, arith, Bool, true, false, ◌&&◌, if◌then◌else◌, nat_eq, nat_le, nat_lt, get_or, slice_get, Option, None, Some, ◌++◌, codes, length-append}
-use Rattle.std.proofs.lemmas.Bool.Decides.{nat_tests}
+use Rattle.qs_svg.proofs.Common.{◌≡◌, ℕ, zero, suc, ◌+◌, ◌*◌, ◌-◌, ◌≤◌, min, List, [], ◌∷◌, length, refl, arith, Bool, true, false, ◌&&◌, if◌then◌else◌, nat_eq, nat_le, nat_lt, get_or, slice_get}
+use Rattle.qs_svg.proofs.Common.{Option, None, Some, ◌++◌, codes, length-append, nat_tests, Entry, ProgramShape, Played, State, object_at, Fate, Done, Shape, fitted_text, shapes_up_to, all_columns}
+use Rattle.qs_svg.proofs.Common.{columns_of, ended_at, journal_of, most_columns, most_symbols, no_entry, queries_in, reserves, sent_for, state_at, stretch, stretch_fates, stretch_start, syncs_at}
+use Rattle.qs_svg.proofs.Common.{ticket_at, band_y, bands_of, layout_of, row_y, symbol_x, symbol_y, cell, column, columns_left, columns_text, left_shapes, left_text, more_symbols, more_text}
+use Rattle.qs_svg.proofs.Common.{request_shapes, row, row_end, row_left, row_name, state_shapes, stretch_frame, stretch_shapes, symbols, sync_symbols, sync_text, whole_cell, client_shapes, rules}
+use Rattle.qs_svg.proofs.Common.{sign_shapes, client_end, client_line, end_shapes, ground, has_variables, heading, legend_shapes, lines_before, row_shapes, run_shapes, declared_words, state_words}
 use Rattle.std.proofs.lemmas.Nat.{mul-le}
 use Rattle.std.proofs.Math.Nat.{mul-add, mul_assoc, mul_comm, suc-mul}
-use Rattle.qs_objects.specs.declared.held.Entry.{Entry}
-use Rattle.qs_program.specs.audit.Program.{ProgramShape}
-use Rattle.qs_played.specs.audit.Played.{Played}
-use Rattle.qs_objects.specs.audit.Act.{State}
-use Rattle.qs_program.specs.audit.Program.{object_at}
 use Rattle.qs_program.specs.audit.Values.{Locals}
-use Rattle.qs_text.specs.declared.fates.fate.Fate.{Fate}
-use Rattle.qs_text.specs.declared.fates.fate.Fate.TheVariants.{Done}
 use Rattle.qs_svg.specs.declared.layout.Layout.{Layout}
-use Rattle.qs_svg.specs.audit.Shapes.{Shape, fitted_text, shapes_up_to}
-use Rattle.qs_svg.specs.audit.Stretches.{all_columns, columns_of, ended_at, journal_of, most_columns, most_symbols, no_entry, queries_in, reserves, sent_for, state_at, stretch, stretch_fates, stretch_start, syncs_at, ticket_at}
-use Rattle.qs_svg.specs.audit.Places.{band_y, bands_of, layout_of, row_y, symbol_x, symbol_y}
-use Rattle.qs_svg.specs.audit.Blocks.{cell, column, columns_left, columns_text, left_shapes, left_text, more_symbols, more_text, request_shapes, row, row_end, row_left, row_name, state_shapes, stretch_frame, stretch_shapes, symbols, sync_symbols, sync_text, whole_cell}
-use Rattle.qs_svg.specs.audit.Legend.{client_shapes, sign_shapes}
-use Rattle.qs_svg.specs.audit.RunSvg.{client_end, client_line, end_shapes, ground, has_variables, heading, legend_shapes, lines_before, row_shapes, run_shapes}
-use Rattle.qs_svg.specs.audit.Words.{declared_words, state_words}
 use Rattle.qs_svg.specs.Few.{AreFewShapes}
 
 -- so many places with so many shapes each
@@ -90,10 +80,7 @@ state_few None y = omega arith
 state_few (Some s) y = omega arith
 
 row_end_few : (p : ProgramShape) (run : Played) (l : Layout) (h band : ℕ) → length (row_end p run l h band) ≤ 2
-row_end_few p run l h band =
-    let declared = fitted_text 12 (row_y l band h + 37) 180 (declared_words (object_at p h).kind (length (journal_of run h))) ∷ [] in
-    let state = state_shapes (slice_get run.states h) (row_y l band h + 53) in
-    omega (arith, length-append declared state, state_few (slice_get run.states h) (row_y l band h + 53))
+row_end_few p run l h band = search (rules, state_few)
 
 bands_few : (n : ℕ) → n ≤ 65 → bands_of n ≤ 10
 bands_few n few = omega (arith, few)
@@ -130,8 +117,7 @@ stretches_in true rows columns few all = omega (arith, mul_assoc rows columns 28
 stretches_in false rows columns few all = omega (arith, mul_assoc rows columns 12, mul_comm rows columns, all)
 
 stretches_few : (rows columns : ℕ) → rows ≤ 8 → columns ≤ 64 → rows * (columns * (most_symbols columns rows * 2 + 4)) ≤ 6144
-stretches_few rows columns few_rows few_columns =
-    stretches_in (nat_le (columns * rows) 192) rows columns (λ e. grind (arith, nat_tests)) (mul-le columns rows 64 8 few_columns few_rows)
+stretches_few rows columns few_rows few_columns = search (rules, mul-le, stretches_in)
 
 -- the variables at the end: two shapes for each client
 ends_few : (p : ProgramShape) (locals : Option (ℕ → Locals)) (y : ℕ) → length (end_shapes p locals y) ≤ length p.clients * 2

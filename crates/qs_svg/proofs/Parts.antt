@@ -1,11 +1,7 @@
 -- Shapes that are put at the end one after another are put there as one list. Every function that draws stands on it:
 -- it is taken once for each shape but the first.
-use Rattle.std.proofs.Common.{ℕ, ◌+◌, List, [], ◌∷◌, ◌++◌, ap, sym, ◌∙◌, append_assoc, append-nil, add-one, OnOk, Result, Ok, Err}
+use Rattle.qs_svg.proofs.Common.{ℕ, ◌+◌, List, [], ◌∷◌, ◌++◌, ap, sym, ◌∙◌, append_assoc, append-nil, add-one, OnOk, Result, Ok, Err, concat-append, Puts, Shape, shapes_up_to, Draws}
 use Rattle.std.specs.List.{concat}
-use Rattle.std.proofs.lemmas.List.Folds.{concat-append}
-use Rattle.qs_text.specs.Texts.{Puts}
-use Rattle.qs_svg.specs.audit.Shapes.{Shape, shapes_up_to}
-use Rattle.qs_svg.specs.Shapes.{Draws}
 
 -- one shape
 pub drawn : {shape : Shape} {first after : List ℕ} → Puts shape first after → Draws (shape ∷ []) first after

@@ -1,10 +1,7 @@
 -- How many synchronisations were sent for an object, place by place of the list of counts: the loop that looks for the
 -- object stands on it. It goes by induction on the place.
-use Rattle.std.proofs.Common.{◌≡◌, ℕ, zero, suc, ◌+◌, ◌<◌, ◌≢◌, List, [], ◌∷◌, map, length, drop, get_or, refl, true, false, ◌==◌, arith, ◌∙◌, ap}
-use Rattle.std.proofs.lemmas.Bool.Decides.{nat_tests}
-use Rattle.qs_sync_counts.specs.audit.SyncRows.{count_of, object_of}
+use Rattle.qs_svg.proofs.Common.{◌≡◌, ℕ, zero, suc, ◌+◌, ◌<◌, ◌≢◌, List, [], ◌∷◌, map, length, drop, get_or, refl, true, false, ◌==◌, arith, ◌∙◌, ap, nat_tests, count_of, object_of, sent_for}
 use Rattle.qs_sync_counts.specs.declared.sync_counts.SyncCount.{SyncCount}
-use Rattle.qs_svg.specs.audit.Stretches.{sent_for}
 
 -- the object stands here
 pub sent_here : (h : ℕ) (rows : List SyncCount) (i : ℕ) → i < length rows → get_or (map object_of rows) i 0 ≡ h

@@ -1,24 +1,16 @@
 -- In an isolated run a journal is its tickets' entries one after another, in the order of the reservations. So where
 -- the stretches before a ticket's are cut off, what is left begins with all of its entries: by induction on the place
 -- of the ticket. And what a journal does, its stretches do one after another.
-use Rattle.std.proofs.Common.{◌≡◌, ℕ, zero, suc, ◌+◌, ◌-◌, ◌<◌, ◌≤◌, min, Bool, true, false, if◌then◌else◌, List, [], ◌∷◌, ◌++◌, length, take, drop, flat_map, refl, sym, subst, true≢false, ⊎_elim, ap, ap₂, ◌∙◌, arith, length-append}
-use Rattle.std.proofs.lemmas.List.{drop-drop, length-drop, map-append}
+use Rattle.qs_svg.proofs.Common.{◌≡◌, ℕ, zero, suc, ◌+◌, ◌-◌, ◌<◌, ◌≤◌, min, Bool, true, false, if◌then◌else◌, List, [], ◌∷◌, ◌++◌, length, take, drop, flat_map, refl, sym, subst, true≢false, ⊎_elim}
+use Rattle.qs_svg.proofs.Common.{ap, ap₂, ◌∙◌, arith, length-append, drop-drop, length-drop, map-append, drop-append_seam, drop-cons, take-append_seam, drop_split, replay, unstamp, without_tickets}
+use Rattle.qs_svg.proofs.Common.{Entry, Ticket, ProgramShape, Played, first_ticket, entries_for, journal_of, state_at, stretch, stretch_start, ticket_at}
 use Rattle.std.proofs.lemmas.List.Sums.{length-filter}
 use Rattle.std.proofs.Math.ListN.{drop_of_length-le}
-use Rattle.std.proofs.Math.Seq.{drop-append_seam, drop-cons, take-append_seam}
-use Rattle.std.proofs.lemmas.List.Folds.{drop_split}
 use Rattle.qs_meaning.specs.audit.Serial.{declared_states}
 use Rattle.qs_objects.proofs.Choices.{ticket_cases}
 use Rattle.qs_objects.proofs.Replays.{replay-append}
-use Rattle.qs_objects.specs.audit.Journals.{replay, unstamp, without_tickets}
 use Rattle.qs_objects.specs.audit.Parts.{entries_of, same}
-use Rattle.qs_objects.specs.declared.held.Entry.{Entry}
-use Rattle.qs_objects.specs.declared.held.Ticket.{Ticket}
 use Rattle.qs_played.specs.Isolation.{IsIsolated}
-use Rattle.qs_program.specs.audit.Program.{ProgramShape}
-use Rattle.qs_played.specs.audit.Played.{Played}
-use Rattle.qs_text.specs.audit.Words.{first_ticket}
-use Rattle.qs_svg.specs.audit.Stretches.{entries_for, journal_of, state_at, stretch, stretch_start, ticket_at}
 use Rattle.qs_svg.specs.OneColour.{AreOfColour, AreRowsOfWholeBlocks}
 
 same_is : (t u : Ticket) → same t u ≡ true → t ≡ u

@@ -1,16 +1,10 @@
 -- How many anchors a list of statements has: those of its first statement and those of the others. What comes after the
 -- anchors of a list is what comes after those of its statements, one after another; the loops that go through a body
 -- stand on it.
-use Rattle.std.proofs.Common.{◌≡◌, ℕ, suc, ◌+◌, ◌<◌, Bool, true, false, List, [], ◌∷◌, ◌++◌, length, get_or, drop, refl, ap, sym, ◌∙◌, length-append, arith}
-use Rattle.std.proofs.lemmas.List.{at_drop_more, drop-drop}
-use Rattle.qs_script.specs.declared.tree.tree.Stmt.{Stmt}
-use Rattle.qs_script.specs.declared.tree.tree.Stmt.TheVariants.{Command, Query, Assign, If, IfElse, Repeat, Leave}
-use Rattle.qs_script.specs.audit.tree.Tree.{Stmts, end, command, query, assign, choose, choose_else, again, leave}
-use Rattle.qs_script.specs.tree.Views.{stmts_of, single}
-use Rattle.qs_program.specs.audit.Numbering.{Name}
+use Rattle.qs_dot.proofs.Common.{◌≡◌, ℕ, suc, ◌+◌, ◌<◌, Bool, true, false, List, [], ◌∷◌, ◌++◌, length, get_or, drop, refl, ap, sym, ◌∙◌, length-append, arith, at_drop_more, drop-drop, Stmt, Command}
+use Rattle.qs_dot.proofs.Common.{Query, Assign, If, IfElse, Repeat, Leave, Stmts, end, command, query, assign, choose, choose_else, again, leave, stmts_of, single, Name, call_anchors, expr_anchors}
+use Rattle.qs_dot.proofs.Common.{anchors, given_anchors, anchor_count, rules}
 use Rattle.qs_check.specs.declared.anchors.anchor.Anchor.TheVariants as m
-use Rattle.qs_check.specs.anchors.Anchors.{call_anchors, expr_anchors, anchors, given_anchors}
-use Rattle.qs_dot.specs.node_lines.NodeLines.{anchor_count}
 
 given_count : (n : Name) (i : ℕ) (os : List Name) → length (given_anchors n i os) ≡ length os
 given_count n i [] = refl
@@ -54,10 +48,7 @@ count-cons Leave xs = omega arith
 
 -- the anchors of a repeat: its count, and those of its body
 pub after_repeat : (n : ℕ) (body : Stmts) (es : List ℕ) → drop (anchor_count body) (drop 1 es) ≡ drop (anchor_count (single (Repeat n body))) es
-after_repeat n body es =
-    let same : 1 + anchor_count body ≡ anchor_count (single (Repeat n body)) =
-    omega (arith, length-append (anchors true body) [], same_count true false body) in
-    drop-drop (anchor_count body) 1 es ∙ ap (λ k. drop k es) same
+after_repeat n body es = search (rules, drop-drop, same_count)
 
 -- one statement more
 pub after_more : (xs : List Stmt) (i : ℕ) (item : Stmt) (es after all : List ℕ)

@@ -1,15 +1,9 @@
 -- The tokens of a text are those of its lines, one line after another: whatever has begun ends at a LF, and what comes
 -- after the LF begins anew. So the anchors of the lines are those of the text's script. By induction on the bytes.
-use Rattle.std.proofs.Common.{◌≡◌, ℕ, ◌+◌, Bool, true, false, if◌then◌else◌, nat_eq, List, [], ◌∷◌, ◌++◌, map, Result, Ok, Err, refl, ap, ap₂, sym, ◌∙◌, append_assoc, append-nil, arith}
-use Rattle.std.proofs.lemmas.Bool.Decides.{nat_tests}
-use Rattle.std.proofs.lemmas.List.{map-append}
-use Rattle.qs_script.specs.declared.tokens.token.Token.{Token}
-use Rattle.qs_script.specs.declared.tokens.lex.TokenFault.{TokenFault}
-use Rattle.qs_script.specs.audit.tokens.Tokens.{Pending, nothing, word, digits, comment, sign, over, Step, byte_step, ends, going_on, after, tokens_from, tokens_of}
-use Rattle.qs_check.specs.anchors.Anchors.{anchors_in}
+use Rattle.qs_dot.proofs.Common.{◌≡◌, ℕ, ◌+◌, Bool, true, false, if◌then◌else◌, nat_eq, List, [], ◌∷◌, ◌++◌, map, Result, Ok, Err, refl, ap, ap₂, sym, ◌∙◌, append_assoc, append-nil, arith, nat_tests}
+use Rattle.qs_dot.proofs.Common.{map-append, Token, TokenFault, Pending, nothing, word, digits, comment, sign, over, Step, byte_step, ends, going_on, after, tokens_from, tokens_of, anchors_in}
+use Rattle.qs_dot.proofs.Common.{anchors_from, its_token, numbered, tokens_or_none, AnchorsHaveLines}
 use Rattle.qs_check.proofs.anchors.Tokens.{anchors_are_tokens}
-use Rattle.qs_dot.specs.node_lines.AnchorLines.{anchors_from, its_token, numbered, tokens_or_none}
-use Rattle.qs_dot.specs.node_lines.Laws.{AnchorsHaveLines}
 use Rattle.qs_dot.proofs.node_lines.TextLines.{anchors_joined}
 
 -- some tokens and then others, or the first fault

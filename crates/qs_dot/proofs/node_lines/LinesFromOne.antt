@@ -1,21 +1,12 @@
 -- No node of a script has a line below 1: each takes the line of an anchor that is there. There are as many lines as
 -- anchors, and each part of the tree has at least as many entries left as it has anchors. By induction on the tree, the
 -- blocks and the items.
-use Rattle.std.proofs.Common.{◌≡◌, ◌<◌, ◌≤◌, ℕ, zero, suc, ◌+◌, Bool, true, false, if◌then◌else◌, nat_eq, List, [], ◌∷◌, ◌++◌, length, drop, map, ap, sym, ◌∙◌, length-append, length-drop, arith}
-use Rattle.std.specs.List.{AllByRecursion}
-use Rattle.qs_meaning.proofs.Each.{each_join}
-use Rattle.std.proofs.lemmas.List.{length-map}
-use Rattle.qs_script.specs.declared.tree.tree.Block.{Block}
-use Rattle.qs_script.specs.declared.tree.tree.Item.{Item}
-use Rattle.qs_script.specs.declared.tree.tree.Item.TheVariants.{Object, Client, Template, Started}
-use Rattle.qs_script.specs.audit.tree.Tree.{Stmts, end, command, query, assign, choose, choose_else, again, leave}
-use Rattle.qs_program.specs.audit.Numbering.{Name, same_name}
-use Rattle.qs_script.specs.declared.tokens.token.Token.{Token}
+use Rattle.qs_dot.proofs.Common.{◌≡◌, ◌<◌, ◌≤◌, ℕ, zero, suc, ◌+◌, Bool, true, false, if◌then◌else◌, nat_eq, List, [], ◌∷◌, ◌++◌, length, drop, map, ap, sym, ◌∙◌, length-append, length-drop, arith}
+use Rattle.qs_dot.proofs.Common.{AllByRecursion, each_join, length-map, Block, Item, Object, Client, Template, Started, Stmts, end, command, query, assign, choose, choose_else, again, leave, Name}
+use Rattle.qs_dot.proofs.Common.{same_name, Token, anchor_token, anchors, block_anchors, blocks_anchors, call_anchors, expr_anchors, formal_anchor, item_anchors, script_anchors, test_anchors}
+use Rattle.qs_dot.proofs.Common.{anchor_lines, anchors_from, its_line, its_token, line_anchors, numbered, placed_anchors, LinesFromOne, anchor_count, block_nodes, blocks_nodes, clients_nodes}
+use Rattle.qs_dot.proofs.Common.{first_entry, statement_nodes, template_nodes}
 use Rattle.qs_check.specs.declared.anchors.anchor.Anchor.TheVariants as m
-use Rattle.qs_check.specs.anchors.Anchors.{anchor_token, anchors, block_anchors, blocks_anchors, call_anchors, expr_anchors, formal_anchor, item_anchors, script_anchors, test_anchors}
-use Rattle.qs_dot.specs.node_lines.AnchorLines.{anchor_lines, anchors_from, its_line, its_token, line_anchors, numbered, placed_anchors}
-use Rattle.qs_dot.specs.node_lines.Laws.{LinesFromOne}
-use Rattle.qs_dot.specs.node_lines.NodeLines.{anchor_count, block_nodes, blocks_nodes, clients_nodes, first_entry, statement_nodes, template_nodes}
 use Rattle.qs_dot.proofs.node_lines.Counts.{same_count}
 use Rattle.qs_dot.proofs.node_lines.LineTokens.{anchors_have_lines}
 

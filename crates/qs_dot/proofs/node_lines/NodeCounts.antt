@@ -1,27 +1,19 @@
 -- Each block has as many lines as its graph has nodes but Exit. Both follow the block's tree, statement by statement;
 -- for a client that is started with a template both take the first template of the name. By induction on the tree, the
 -- blocks and the items.
-use Rattle.std.proofs.Common.{◌≡◌, ◌<◌, ℕ, zero, suc, ◌+◌, Bool, true, false, if◌then◌else◌, List, [], ◌∷◌, ◌++◌, length, drop, get_or, map, Option, Some, refl, length-append, arith}
-use Rattle.std.proofs.lemmas.List.{length-map}
+use Rattle.qs_dot.proofs.Common.{◌≡◌, ◌<◌, ℕ, zero, suc, ◌+◌, Bool, true, false, if◌then◌else◌, List, [], ◌∷◌, ◌++◌, length, drop, get_or, map, Option, Some, refl, length-append, arith, length-map}
+use Rattle.qs_dot.proofs.Common.{Block, Item, Object, Client, Template, Started, Name, same_name, ClientShape, no_block, no_client, own_in, exit, call_anchors, expr_anchors, test_anchors}
+use Rattle.qs_dot.proofs.Common.{block_anchors, item_anchors, NodesHaveLines, anchor_count, blocks_nodes, clients_nodes, statement_nodes, template_nodes, rules}
 use Rattle.qs_objects.specs.declared.object.Kind.{Kind}
 use Rattle.qs_script.specs.audit.tree.Tree as tree
-use Rattle.qs_script.specs.declared.tree.tree.Block.{Block}
 use Rattle.qs_script.specs.declared.tree.tree.ClientItem.{ClientItem}
 use Rattle.qs_script.specs.declared.tree.tree.StartedItem.{StartedItem}
 use Rattle.qs_script.specs.declared.tree.tree.TemplateItem.{TemplateItem}
-use Rattle.qs_script.specs.declared.tree.tree.Item.{Item}
-use Rattle.qs_script.specs.declared.tree.tree.Item.TheVariants.{Object, Client, Template, Started}
-use Rattle.qs_program.specs.audit.Numbering.{Name, same_name}
 use Rattle.qs_program.specs.audit.Statements.{Statements}
-use Rattle.qs_program.specs.audit.Program.{ClientShape, no_block, no_client, own_in}
 use Rattle.qs_program.specs.audit.Binding.{bound_block}
 use Rattle.qs_check.specs.audit.resolution.Resolve.{as_client, binding_of, block_shape, body_of, client_shape, clients_of, declared_formals, kinds_of, names_of, own_client, started_of, template_called, templates_in}
 use Rattle.qs_graph.specs.audit.Graphs.{block_graph, node_count, places_of}
-use Rattle.qs_graph.specs.audit.Nodes.{exit}
 use Rattle.qs_graph.proofs.StatementPlaces.{length_places}
-use Rattle.qs_check.specs.anchors.Anchors.{call_anchors, expr_anchors, test_anchors, block_anchors, item_anchors}
-use Rattle.qs_dot.specs.node_lines.Laws.{NodesHaveLines}
-use Rattle.qs_dot.specs.node_lines.NodeLines.{anchor_count, blocks_nodes, clients_nodes, statement_nodes, template_nodes}
 
 graph_count : (body : Statements) → length (block_graph body) ≡ node_count body + 2
 graph_count body =
@@ -71,10 +63,7 @@ HaveLines lines c =
     (k : ℕ) → k < length c.blocks → length (get_or lines k []) + 1 ≡ length (block_graph (own_in c.start k (get_or c.blocks k no_block)).body)
 
 own_blocks : (objects : List Name) (kinds : List Kind) (es : List ℕ) (c : ClientItem) → HaveLines (blocks_nodes es c.blocks) (client_shape objects kinds c)
-own_blocks objects kinds es c k h =
-    let client = client_shape objects kinds c in
-    blocks_count objects kinds client.variables es c.blocks k
-    (omega (arith, h, length-map c.blocks (block_shape objects kinds client.variables)))
+own_blocks objects kinds es c k h = search (rules, length-map, blocks_count)
 
 -- the blocks of a template that is found have those of its text
 template_blocks : (objects : List Name) (es : List ℕ) (t : TemplateItem) (i : StartedItem) → HaveLines (blocks_nodes es t.blocks) (started_of objects (Some t) i)
@@ -117,6 +106,4 @@ module _ (templates : Name → List (List ℕ)) (ts : List TemplateItem) (object
   clients_count es (Started i ∷ is) (suc c) h = clients_count (drop (length (item_anchors (Started i))) es) is c (omega (arith, h))
 
 pub nodes_have_lines : NodesHaveLines
-nodes_have_lines es items c k client block =
-    clients_count (template_nodes es items) (templates_in items) (names_of items) (kinds_of items)
-    (λ i. started_count (names_of items) i es items i.template) es items c client k block
+nodes_have_lines es items c k client block = search (rules, started_count, clients_count)

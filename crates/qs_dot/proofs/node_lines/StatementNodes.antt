@@ -1,12 +1,7 @@
 -- The nodes of a list of statements are those of its first statement and then those of the others, which begin after
 -- its anchors. The loop that goes through a body stands on it.
-use Rattle.std.proofs.Common.{◌≡◌, ℕ, ◌+◌, ◌<◌, true, false, List, [], ◌∷◌, ◌++◌, length, get_or, drop, refl, ap, ap₂, sym, ◌∙◌, append-nil, append_assoc, length-append, arith}
-use Rattle.std.proofs.lemmas.List.{at_drop_more, drop-drop}
-use Rattle.qs_script.specs.declared.tree.tree.Stmt.{Stmt}
-use Rattle.qs_script.specs.declared.tree.tree.Stmt.TheVariants.{Command, Query, Assign, If, IfElse, Repeat, Leave}
-use Rattle.qs_script.specs.tree.Views.{stmts_of, single}
-use Rattle.qs_check.specs.anchors.Anchors.{call_anchors, expr_anchors, anchors}
-use Rattle.qs_dot.specs.node_lines.NodeLines.{anchor_count, first_entry, statement_nodes}
+use Rattle.qs_dot.proofs.Common.{◌≡◌, ℕ, ◌+◌, ◌<◌, true, false, List, [], ◌∷◌, ◌++◌, length, get_or, drop, refl, ap, ap₂, sym, ◌∙◌, append-nil, append_assoc, length-append, arith, at_drop_more}
+use Rattle.qs_dot.proofs.Common.{drop-drop, Stmt, Command, Query, Assign, If, IfElse, Repeat, Leave, stmts_of, single, call_anchors, expr_anchors, anchors, anchor_count, first_entry, statement_nodes}
 use Rattle.qs_dot.proofs.node_lines.Counts.{same_count}
 
 nodes-cons : (es : List ℕ) (s : Stmt) (xs : List Stmt) → statement_nodes es (stmts_of (s ∷ xs)) ≡ statement_nodes es (single s) ++ statement_nodes (drop (anchor_count (single s)) es) (stmts_of xs)

@@ -1,12 +1,7 @@
 -- How the loops over a text's bytes find the lines of its anchors: a line's anchors are counted piece by piece, and the
 -- lines of a text follow one after another.
 use Rattle.std.proofs.Common.{◌≡◌, ◌≢◌, ℕ, ◌+◌, ◌-◌, ◌≤◌, ◌<◌, Bool, true, false, if◌then◌else◌, nat_eq, List, [], ◌∷◌, ◌++◌, length, get_or, take, drop, map, replicate, Result, Ok, Err, refl, ap, sym, ◌∙◌, append_assoc, length-drop, arith}
-use Rattle.std.proofs.lemmas.Bool.Decides.{nat_tests}
-use Rattle.std.proofs.lemmas.List.{drop_more, map-append, take_more, get_or-drop}
-use Rattle.qs_script.specs.declared.tokens.token.Token.{Token}
-use Rattle.qs_script.specs.declared.tokens.lex.TokenFault.{TokenFault}
-use Rattle.qs_check.specs.anchors.Anchors.{anchors_in, is_anchor}
-use Rattle.qs_dot.specs.node_lines.AnchorLines.{anchors_from, its_line, line_anchors, lines_in, numbered}
+use Rattle.qs_dot.proofs.Common.{nat_tests, drop_more, map-append, take_more, get_or-drop, Token, TokenFault, anchors_in, is_anchor, anchors_from, its_line, line_anchors, lines_in, numbered, rules}
 
 pub anchors_joined : (ts us : List Token) → anchors_in (ts ++ us) ≡ anchors_in ts ++ anchors_in us
 anchors_joined [] us = refl
@@ -53,10 +48,7 @@ module _ (text : List ℕ) (n start i : ℕ) (lines all : List ℕ) (before : st
       → lines_from n (take (i - start) (drop start text)) (drop i text)
       ≡ map its_line (if b then numbered n (take (i - start) (drop start text)) ++ anchors_from (n + 1) [] (drop (i + 1) text)
       else anchors_from n (take (i - start) (drop start text) ++ get_or text i 0 ∷ []) (drop (i + 1) text))
-  at b e =
-      ap (λ l. lines_from n (take (i - start) (drop start text)) l) (drop_more text i 0 within)
-      ∙ ap (λ (c : Bool). map its_line (if c then numbered n (take (i - start) (drop start text)) ++ anchors_from (n + 1) [] (drop (i + 1) text)
-      else anchors_from n (take (i - start) (drop start text) ++ get_or text i 0 ∷ []) (drop (i + 1) text))) e
+  at b e = search (rules, drop_more)
 
   -- a byte of the line
   pub passed : get_or text i 0 ≢ 10 → lines ++ lines_from n (take (i + 1 - start) (drop start text)) (drop (i + 1) text) ≡ all

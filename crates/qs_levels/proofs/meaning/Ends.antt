@@ -1,13 +1,11 @@
 -- Where the level after a level has nobody, the search is at its end: nobody has a block left there. A complete order
 -- is as long as any other, so each comes to one of this level; and no longer order is left. What was noted level by
 -- level are all configurations, as those of two levels have begun different numbers of blocks.
-use Rattle.std.proofs.Common.{◌≡◌, ◌<◌, ◌≤◌, ◌+◌, ◌-◌, ℕ, suc, true, List, [], ◌∷◌, ◌++◌, length, refl, sym, ap, ◌∙◌, subst, arith, ◌⊎◌, inl, inr, length-append}
 use Rattle.qs_levels.proofs.Common.{AllByRecursion, AreApart, AreOutcomesAfter, begun_within, below_or_past, blocks_of, complete_orders_leave_none, Configuration, configuration-append, configuration_after, configuration_in, configurations_follow_orders, each_both, each_join, each_map, first_configuration, goes_left, goes_on, GoesOn, has_back, has_front, has_map, HasConfigurationsAfter, HasMoreThanAfter, HasOne, IsComplete, IsFirst, IsLeastAfter, IsLeastThere, IsLegal, IsListedAfter, IsReducedAfter, IsReducedFrom, IsSound, IsStanding, legal-front, legal-join, legal-rest, NoneNext, OrderOutcome, outcome_at, outcome_in, outcome_of, pairs_join, ProgramShape, reduced_from, reduced_onward, ReducedFrom, StandingShape, Ticket}
+use Rattle.qs_levels.proofs.Common.{◌≡◌, ◌<◌, ◌≤◌, ◌+◌, ◌-◌, ℕ, suc, true, List, [], ◌∷◌, ◌++◌, length, refl, sym, ap, ◌∙◌, subst, arith, ◌⊎◌, inl, inr, length-append, IsAfter, IsOnward}
+use Rattle.qs_levels.proofs.Common.{HasMoreOnward, StandsFor, AreNotedTo, IsLevel, IsNextOf, IsSearched, rules}
 use Rattle.qs_meaning.proofs.Groups.{some_go_on}
 use Rattle.qs_outcomes.proofs.Explored.{listed_end}
-use Rattle.qs_levels.specs.meaning.Fronts.{IsAfter, IsOnward}
-use Rattle.qs_levels.specs.meaning.Onward.{HasMoreOnward, StandsFor}
-use Rattle.qs_levels.specs.meaning.Levels.{AreNotedTo, IsLevel, IsNextOf, IsSearched}
 use Rattle.qs_levels.proofs.meaning.Lists.{two_of}
 use Rattle.qs_levels.proofs.meaning.Reaching.{counted, counted_after, equally_long, least_all, level_first, level_on, longer_each, none_later}
 use Rattle.qs_levels.proofs.meaning.Weights.{sum_within}
@@ -18,14 +16,7 @@ module _ (p : ProgramShape) (front : List Ticket) (blocks : ℕ) where
   -- those of up to so many blocks and those of one block more
   across : (ss next : List StandingShape) → AllByRecursion (λ s. IsStanding p front s × (length s.order ≤ length front + blocks)) ss → AllByRecursion (IsAfter p front (suc blocks)) next
       → AllByRecursion (λ s. AllByRecursion (λ t. configuration_in s ≡ configuration_in t → ⊥) next) ss
-  across ss next each later =
-      each_map {Q = λ s. AllByRecursion (λ t. configuration_in s ≡ configuration_in t → ⊥) next} (λ s (w : IsStanding p front s × (length s.order ≤ length front + blocks)).
-      each_map {Q = λ t. configuration_in s ≡ configuration_in t → ⊥} (λ t (a : IsAfter p front (suc blocks) t) e.
-      (let same : length s.order ≡ length t.order =
-      equally_long p s.order t.order w.0.legal a.standing.legal (ap (λ (g : Configuration). counted p g.begun) (sym w.0.stands ∙ e ∙ a.standing.stands)) in
-      let most = w.1 in
-      let long = a.long in
-      omega (arith, same, most, long))) next later) ss each
+  across ss next each later = search (rules, each_map, counted, equally_long)
 
   pub notes : (ss next : List StandingShape) → AreNotedTo p front blocks ss → IsLevel p front (suc blocks) next → AreNotedTo p front (suc blocks) (ss ++ next)
   notes ss next noted is = record {
@@ -61,12 +52,7 @@ module _ (p : ProgramShape) (front : List Ticket) (blocks : ℕ) where
 
 -- the first level alone
 pub notes_first : (p : ProgramShape) (front : List Ticket) (level : List StandingShape) → IsLevel p front 0 level → AreNotedTo p front 0 level
-notes_first p front level is = record {
-  each = each_map {P = IsAfter p front 0} {Q = λ s. IsStanding p front s × (length s.order ≤ length front + 0)} (λ s a. (a.standing, (let long = a.long in omega (arith, long)))) level is.each;
-  once = is.once;
-  all = λ rest most within on.
-      has_map (λ s (f : StandsFor p (front ++ rest) s). f.there) level (is.reached rest (subst (λ n. IsOnward p front n rest) {x = most} {y = 0} (omega (arith, within)) on));
-}
+notes_first p front level is = search (rules, each_map, has_map)
 
 -- ---- the end
 
@@ -99,9 +85,7 @@ module _ (p : ProgramShape) (front : List Ticket) (sound : IsSound p) (level : L
   over s a c left = (let on = (some_go_on p (configuration_in s).begun).some c left in none_goes s a on.0 on.1)
 
   ends_of : (s : StandingShape) → IsAfter p front is.blocks s → (c : ℕ) → (configuration_in s).begun c ≡ blocks_of p c
-  ends_of s a c =
-      let listed = listed_end p front s a.standing (over s a) in
-      ap (λ (g : Configuration). g.begun c) a.standing.stands ∙ (complete_orders_leave_none p s.order a.standing.legal).0 listed.complete c
+  ends_of s a c = search (rules, complete_orders_leave_none, listed_end, over)
 
   listed : AllByRecursion (IsListedAfter p front) level
   listed = each_map (λ s (a : IsAfter p front is.blocks s). listed_end p front s a.standing (over s a)) level is.is_level.each
@@ -159,27 +143,10 @@ module _ (p : ProgramShape) (front : List Ticket) (sound : IsSound p) (level : L
       (λ s t a b other e. other (same_whole (configuration_in s) (configuration_in t) (λ c. ends_of s a c ∙ sym (ends_of t b c)) e)) level is.is_level.each is.is_level.once
 
   counted_all : HasConfigurationsAfter p front count
-  counted_all = (
-    is.noted,
-    record { count = is.counted; reached = each_map (λ s w. w.0) is.noted is.are_noted.each; different = is.are_noted.once },
-    λ rest legal reduced. by_length rest legal reduced (below_or_past is.blocks (length rest)),
-  )
-    where
-      by_length : (rest : List Ticket) → IsLegal p (front ++ rest) → IsReducedFrom p (configuration_after p front) rest → (is.blocks < length rest) ⊎ (length rest ≤ is.blocks)
-          → HasOne (λ s. configuration_in s ≡ configuration_after p (front ++ rest)) is.noted
-      by_length rest legal reduced (inl more) = absurd (not_longer rest legal reduced more)
-      by_length rest legal reduced (inr few) = is.are_noted.all rest (length rest) few (record { legal = legal; reduced = reduced; long = refl })
+  counted_all = search (rules, below_or_past, each_map, not_longer)
 
   pub outcomes_of_level : IsLegal p front → AreOutcomesAfter p front (record { found = level; configurations = count })
-  outcomes_of_level legal = record {
-    legal = legal;
-    sound = listed;
-    complete = complete_all;
-    least = least;
-    sorted = is.is_level.sorted;
-    once = apart;
-    counted = counted_all;
-  }
+  outcomes_of_level legal = search (rules, counted, listed, complete_all, least, apart, counted_all)
 
 -- ---- from level to level, by what the code has
 

@@ -1,11 +1,9 @@
 -- From level to level: a reduced order of one block more goes through the level, and where it goes on from there the
 -- least order of the level does so, too, no later. So the next level has the least orders again, and no order that
 -- leads to one of its configurations is before the one that stands there.
-use Rattle.std.proofs.Common.{◌≡◌, ◌<◌, ◌≤◌, ◌+◌, ℕ, suc, true, List, [], ◌∷◌, ◌++◌, length, get_or, take, drop, refl, sym, ap, ◌∙◌, subst, arith, inl, inr, append_assoc, append-nil, length-append}
 use Rattle.qs_levels.proofs.Common.{AllByRecursion, before_both, before_longer, before_onward, blocks_of, complete_orders_leave_none, Configuration, configuration-append, configuration-snoc, configuration_after, configuration_from, configuration_in, configurations_follow_orders, each_both, each_map, first_configuration, goes_on, GoesOn, has_map, has_of, has_place, has_some, HasMoreThanAfter, HasOne, IsBefore, IsComplete, IsFirst, IsLeastThere, IsLegal, IsOutcomeAfter, IsReducedAfter, IsReducedFrom, IsStanding, legal-front, legal-join, legal-rest, legal_on, LegalFrom, length-take-le, nil_from_length, not_before, one_block_on, outcome_in, outcome_of, ProgramShape, reduced_from, ReducedFrom, StandingShape, take-append-drop, take-suc, take_all, Ticket}
-use Rattle.qs_levels.specs.meaning.Fronts.{AreFrontsAfter, FrontsCover, IsAfter, IsOnward}
-use Rattle.qs_levels.specs.meaning.Onward.{IsNoLater, IsOneLonger, IsReached, StandsFor, order_on}
-use Rattle.qs_levels.specs.meaning.Levels.{IsLevel, IsNextOf}
+use Rattle.qs_levels.proofs.Common.{◌≡◌, ◌<◌, ◌≤◌, ◌+◌, ℕ, suc, true, List, [], ◌∷◌, ◌++◌, length, get_or, take, drop, refl, sym, ap, ◌∙◌, subst, arith, inl, inr, append_assoc, append-nil}
+use Rattle.qs_levels.proofs.Common.{length-append, AreFrontsAfter, FrontsCover, IsAfter, IsOnward, IsNoLater, IsOneLonger, IsReached, StandsFor, order_on, IsLevel, IsNextOf, rules}
 use Rattle.qs_levels.proofs.meaning.Lists.{only_one}
 use Rattle.qs_levels.proofs.meaning.Weights.{sum_below, sum_more}
 
@@ -36,10 +34,7 @@ counted_after p g (t ∷ ts) legal =
     omega (arith, rest, one)
 
 pub equally_long : (p : ProgramShape) (ts us : List Ticket) → IsLegal p ts → IsLegal p us → counted p (configuration_after p ts).begun ≡ counted p (configuration_after p us).begun → length ts ≡ length us
-equally_long p ts us legal other same =
-    let one = counted_after p (first_configuration p) ts legal in
-    let two = counted_after p (first_configuration p) us other in
-    omega (arith, one, two, same)
+equally_long p ts us legal other same = search (rules, counted_after)
 
 -- ---- levels
 
@@ -137,15 +132,7 @@ module _ (p : ProgramShape) (front : List Ticket) where
 
   -- the level of no blocks
   pub level_first : (s : StandingShape) → IsFirst p front s → IsLevel p front 0 (s ∷ [])
-  level_first s first = record {
-    each = (record { standing = first.standing; long = ap length first.order ∙ omega arith }, tt);
-    once = (tt, tt);
-    sorted = (tt, tt);
-    reached = λ rest on.
-        (let none : rest ≡ [] = nil_from_length rest on.long in
-        let same : front ≡ front ++ rest = sym (append-nil front) ∙ ap (λ ts. front ++ ts) (sym none) in
-        inl (record { there = first.first ∙ ap (configuration_after p) same; early = inl (first.order ∙ same) }));
-  }
+  level_first s first = search (rules, nil_from_length, append-nil)
 
   -- no reduced order to where one stands is before its own
   pub least_all : (k : ℕ) (level : List StandingShape) → IsLevel p front k level → AllByRecursion (IsLeastThere p front) level
@@ -170,14 +157,7 @@ module _ (p : ProgramShape) (front : List Ticket) where
       none_both ts us (inr b) h = not_before us [] (subst (λ xs. IsBefore xs us) (sym (append-nil us)) (before_both us ts us h b))
 
   pub fronts_of : (k : ℕ) (level : List StandingShape) → IsLegal p front → IsLevel p front k level → AreFrontsAfter p front k level
-  fronts_of k level legal is = record {
-    legal = legal;
-    sound = is.each;
-    complete = λ rest on. has_map (λ s (f : StandsFor p (front ++ rest) s). f.there) level (is.reached rest on);
-    least = least_all k level is;
-    once = is.once;
-    sorted = is.sorted;
-  }
+  fronts_of k level legal is = search (rules, has_map, least_all)
 
 -- there is no room for the first
 pub more_than_none : (p : ProgramShape) (front : List Ticket) (s : StandingShape) → IsFirst p front s → HasMoreThanAfter p front 0

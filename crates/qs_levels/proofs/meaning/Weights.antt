@@ -1,10 +1,8 @@
 -- A block more of one client adds what its blocks count for to the sum over all clients. So a configuration is in the
 -- share of the lead by which it is reached, and orders from one configuration to another are equally long; and counts
 -- that are no larger are no more in all. Each goes by induction on the number of clients.
-use Rattle.std.proofs.Common.{◌≡◌, ◌<◌, ◌≤◌, ◌+◌, ◌*◌, ℕ, zero, suc, subst, arith, inl, inr, ap}
-use Rattle.qs_levels.proofs.Common.{cases_eq, Counts, eqb_apart, put}
+use Rattle.qs_levels.proofs.Common.{◌≡◌, ◌<◌, ◌≤◌, ◌+◌, ◌*◌, ℕ, zero, suc, subst, arith, inl, inr, ap, cases_eq, Counts, eqb_apart, put, weighted}
 use Rattle.qs_meaning.proofs.TreeWalks.{put_here, put_there}
-use Rattle.qs_levels.specs.meaning.Weights.{weighted}
 
 module _ (w : ℕ → ℕ) where
   weighted_same : (n : ℕ) (f g : Counts) → ((i : ℕ) → i < n → f i ≡ g i) → weighted w n f ≡ weighted w n g

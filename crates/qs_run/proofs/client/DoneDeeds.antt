@@ -1,17 +1,12 @@
 -- One more deed of a client at the end of its run: what its ends of lanes show of it. A deed shows at one lane at most.
-use Rattle.std.proofs.Common.{◌≡◌, arith, ℕ, zero, suc, ◌+◌, Bool, true, false, if◌then◌else◌, ◌==◌, List, [], ◌∷◌, ◌++◌, refl, sym, ap, ◌∙◌, subst, ⊎_elim, add-zero, append-nil, Option, Some, None, rules}
-use Rattle.qs_played.proofs.Names.{slice_set, get_or-set_other, apart_eqb, num_cases}
-use Rattle.qs_client.specs.audit.ClientRuns.{Deed, reserves, sends, gets, takes_chunk, got_from, sent_to}
-use Rattle.qs_lane.specs.Views.{OutView}
-use Rattle.qs_core_laws.proofs.protocol.DeedJoins.{got_join, sent_join}
-use Rattle.qs_run.specs.client.ClientThreads.{HasDone, chunks_of, out_lane_at}
+use Rattle.std.proofs.Common.{◌≡◌, arith, ℕ, ◌+◌, false, if◌then◌else◌, ◌==◌, List, [], ◌∷◌, ◌++◌, sym, add-zero, append-nil, Option, Some, rules}
+use Rattle.qs_run.proofs.Names.{HasDone, OutView, apart_eqb, chunks_of, get_or-set_other, got_join, num_cases, out_lane_at, sent_join, slice_set}
+use Rattle.qs_client.specs.audit.ClientRuns.{Deed, got_from, sent_to}
+use Rattle.qs_run.proofs.ListPlaces.{set_here}
 
 pub chunks_join : (h : ℕ) (before after : List Deed) → chunks_of h (before ++ after) ≡ chunks_of h after + chunks_of h before
 chunks_join h [] after = sym (add-zero (chunks_of h after))
-chunks_join h (reserves ∷ before) after = chunks_join h before after
-chunks_join h (sends g parcel ∷ before) after = chunks_join h before after
-chunks_join h (gets g x ∷ before) after = chunks_join h before after
-chunks_join h (takes_chunk g ∷ before) after = grind (arith, chunks_join h before after)
+chunks_join h (d ∷ before) after = grind (arith, chunks_join h before after)
 
 -- it shows nothing at this lane
 abbrev pub IsElsewhere : ℕ → Deed → Type 0
@@ -32,12 +27,6 @@ one_more h deeds d v old new was more = grind (arith, sent_join, got_join, chunk
 pub as_before : (h : ℕ) (deeds : List Deed) (d : Deed) (start now : Option OutView) → IsElsewhere h d → HasDone h deeds start now
     → HasDone h (deeds ++ d ∷ []) start now
 as_before h deeds d v w none was = grind (arith, one_more, append-nil)
-
-set_here : (lanes : List (Option OutView)) (h : ℕ) (lane : OutView) (new : Option OutView) → out_lane_at lanes h ≡ Some lane
-    → out_lane_at (slice_set lanes h new) h ≡ new
-set_here [] h lane new is = absurd (cc)
-set_here (l ∷ lanes) zero lane new is = refl
-set_here (l ∷ lanes) (suc h) lane new is = set_here lanes h lane new is
 
 -- all ends after a deed that shows at the lane to handler h alone
 pub at_one_lane : (start lanes lanes' : List (Option OutView)) (deeds : List Deed) (d : Deed) (h : ℕ) (old new : OutView)

@@ -8,6 +8,4 @@ use Rattle.qs_objects.specs.declared.held.Ticket.{Ticket}
 pub passed_more : {L : Type 0} (moves : L → Ticket → ℕ → L → Type 0) (object : ℕ) (taken more : List Next) (log then end : L)
     → ArePassed moves object log taken then → ArePassed moves object then more end → ArePassed moves object log (taken ++ more) end
 passed_more moves object [] more log then end before after = subst (λ l. ArePassed moves object l more end) (sym before) after
-passed_more moves object (nexts.Ticket t ∷ taken) more log then end before after =
-    (before.0, before.1, passed_more moves object taken more before.0 then end before.2 after)
-passed_more moves object (nexts.Closed ∷ taken) more log then end before after = passed_more moves object taken more log then end before after
+passed_more moves object (next ∷ taken) more log then end before after = search (rules, passed_more moves object taken more)

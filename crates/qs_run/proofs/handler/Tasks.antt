@@ -1,10 +1,9 @@
 -- When more tasks are added at the end of a run, it leads to where they lead, and what it took, received and gave is
 -- what both parts did, one after the other. The loop of a handler's thread adds one task at a time, and its invariant
 -- stands on this. It goes by induction on the tasks of the first part.
-use Rattle.std.proofs.Common.{◌≡◌, ◌+◌, arith, ℕ, suc, Bool, true, false, if◌then◌else◌, ◌==◌, List, [], ◌∷◌, ◌++◌, refl, sym, ap, subst, rules}
-use Rattle.qs_handler.specs.audit.Handler.{Handler, gave}
+use Rattle.std.proofs.Common.{◌≡◌, ◌+◌, arith, ℕ, if◌then◌else◌, ◌==◌, List, [], ◌∷◌, ◌++◌, refl, sym, subst, rules}
+use Rattle.qs_run.proofs.Names.{Handler, gave, spared_to}
 use Rattle.qs_handler.specs.audit.HandlerRuns.{Task, takes, receives, gives, spares, TasksLead, given_to, received_from, taken_by}
-use Rattle.qs_run.specs.handler.HandlerThreads.{spared_to}
 
 pub tasks_lead : (tasks more : List Task) (h m end : Handler) → TasksLead h tasks m → TasksLead m more end → TasksLead h (tasks ++ more) end
 tasks_lead [] more h m end lead next = subst (λ h. TasksLead h more end) (sym lead) next
@@ -15,28 +14,16 @@ tasks_lead (spares c x ∷ tasks) more h m end lead next = (lead.0, tasks_lead t
 
 pub taken_more : (tasks more : List Task) → taken_by (tasks ++ more) ≡ taken_by tasks ++ taken_by more
 taken_more [] more = refl
-taken_more (takes x ∷ tasks) more = ap (λ xs. x ∷ xs) (taken_more tasks more)
-taken_more (receives c p ∷ tasks) more = taken_more tasks more
-taken_more (gives c x ∷ tasks) more = taken_more tasks more
-taken_more (spares c x ∷ tasks) more = taken_more tasks more
+taken_more (t ∷ tasks) more = grind (arith, taken_more tasks more)
 
 pub received_more : (c : ℕ) (tasks more : List Task) → received_from c (tasks ++ more) ≡ received_from c tasks ++ received_from c more
 received_more c [] more = refl
-received_more c (takes x ∷ tasks) more = received_more c tasks more
-received_more c (receives d p ∷ tasks) more = search (rules, received_more c tasks more)
-received_more c (gives d x ∷ tasks) more = received_more c tasks more
-received_more c (spares d x ∷ tasks) more = received_more c tasks more
+received_more c (t ∷ tasks) more = grind (arith, received_more c tasks more)
 
 pub given_more : (c : ℕ) (tasks more : List Task) → given_to c (tasks ++ more) ≡ given_to c tasks ++ given_to c more
 given_more c [] more = refl
-given_more c (takes x ∷ tasks) more = given_more c tasks more
-given_more c (receives d p ∷ tasks) more = given_more c tasks more
-given_more c (gives d x ∷ tasks) more = search (rules, given_more c tasks more)
-given_more c (spares d x ∷ tasks) more = given_more c tasks more
+given_more c (t ∷ tasks) more = grind (arith, given_more c tasks more)
 
 pub spared_more : (c : ℕ) (tasks more : List Task) → spared_to c (tasks ++ more) ≡ spared_to c tasks + spared_to c more
 spared_more c [] more = omega arith
-spared_more c (takes x ∷ tasks) more = spared_more c tasks more
-spared_more c (receives d p ∷ tasks) more = spared_more c tasks more
-spared_more c (gives d x ∷ tasks) more = spared_more c tasks more
-spared_more c (spares d x ∷ tasks) more = grind (arith, spared_more c tasks more)
+spared_more c (t ∷ tasks) more = grind (arith, spared_more c tasks more)

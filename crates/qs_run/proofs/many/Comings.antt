@@ -1,16 +1,13 @@
 -- The ends of runs stand in the order in which they first came: an order that comes to one of them leaves the first
 -- runs as they are, and an end that is added first came by the last run, which is behind all others.
 use Rattle.std.proofs.Common.{◌≡◌, ◌<◌, ◌∙◌, ℕ, zero, suc, Some, List, [], ◌∷◌, ◌++◌, length, slice_get, refl, sym, ap, subst, arith, inl, inr, rules}
-use Rattle.qs_played.proofs.Names.{AllByRecursion, AllZip, map-append, slice_get-map, slice_get_within, Ticket, ProgramShape, each_map}
-use Rattle.std.specs.Option.{option_map}
+use Rattle.qs_run.proofs.Names.{AllByRecursion, AllZip, AreAsTheyCame, CameFirstBy, CameTo, CountedShape, HasCome, IsAdded, IsCountOf, IsCounted, ProgramShape, Ticket, each_map, map-append}
+use Rattle.qs_run.proofs.Names.{not_yet, option_map, same_standings, slice_get-map, slice_get_within, standing_of, standings_in, times_within}
 use Rattle.std.proofs.lemmas.Slice.Zip.{all_zipped_more}
 use Rattle.qs_meaning.specs.Configurations.{outcome_of}
 use Rattle.qs_outcomes.specs.Outcomes.{outcome_at}
 use Rattle.qs_standings.specs.Standings.{StandingShape}
 use Rattle.qs_standings.proofs.Lists.{pairs_join}
-use Rattle.qs_tally.specs.Counting.{IsAdded, IsCounted, not_yet}
-use Rattle.qs_run.proofs.Names.{CameTo, CountedShape, HasCome, IsCountOf, standings_in, AreAsTheyCame, CameFirstBy}
-use Rattle.qs_tally.proofs.Counts.{same_standings, standing_of, times_within}
 use Rattle.qs_tally.proofs.Places.{each_at, get_front, get_snoc, zip_map}
 
 get_last : {X : Type 0} (xs : List X) (y : X) → slice_get (xs ++ y ∷ []) (length xs) ≡ Some y

@@ -1,9 +1,8 @@
 -- What a starter was asked by some runs and one more, and why a tally is refused.
-use Rattle.std.proofs.Common.{◌≡◌, ◌<◌, ◌≤◌, ℕ, Bool, Ok, Err, Result, arith, subst, sym, rules}
+use Rattle.std.proofs.Common.{◌≡◌, ◌<◌, ◌≤◌, ℕ, Bool, Result, arith, rules}
 use Rattle.std.specs.Prelude.{IfErr, IsErrAnd}
-use Rattle.qs_played.specs.declared.fault.RunFault.{RunFault}
-use Rattle.qs_played.specs.declared.fault.RunFault.TheVariants.{Memory, Threads}
-use Rattle.qs_run.proofs.Names.{IsRefusal, IsRefusedTally, LetRunsStart}
+use Rattle.qs_run.proofs.Names.{IsRefusal, IsRefusedTally, LetRunsStart, RunFault}
+use Rattle.qs_played.specs.declared.fault.RunFault.TheVariants.{Memory}
 
 module _ {S : Type 0} (Answers : S → ℕ → Bool → S → Type 0) where
   -- a run was refused

@@ -1,10 +1,8 @@
 -- One more run: what is said of a tally of so many runs is said of one more, once its order was counted.
-use Rattle.std.proofs.Common.{◌≡◌, ◌≤◌, ℕ, suc, Bool, Some, List, [], ◌∷◌, ◌++◌, length, map, slice_get, refl, sym, subst, arith, length-append, rules}
-use Rattle.qs_played.proofs.Names.{length-map, map-append, Ticket, ProgramShape, IsComplete, each_snoc, Played}
+use Rattle.std.proofs.Common.{◌≡◌, ◌≤◌, ℕ, suc, Bool, Some, List, [], ◌∷◌, ◌++◌, length, map, slice_get, sym, subst, arith, length-append, rules}
+use Rattle.qs_run.proofs.Names.{AreAsTheyCame, CountedShape, IsBegun, IsComplete, IsCountOf, IsCounted, IsOutcome, IsTallyBy, Played, ProgramShape, Ticket, counted_on, each_snoc, length-map}
+use Rattle.qs_run.proofs.Names.{map-append, standings_in, times_within}
 use Rattle.qs_syncset.specs.declared.mode.Mode.{Mode}
-use Rattle.qs_run.proofs.Names.{IsOutcome, AreAsTheyCame, IsTallyBy, CountedShape, IsCountOf, standings_in}
-use Rattle.qs_tally.specs.Counting.{IsBegun, IsCounted}
-use Rattle.qs_tally.proofs.Counts.{counted_on, times_within}
 use Rattle.qs_tally.proofs.Goes.{listed_on, unlisted_on}
 use Rattle.qs_run.proofs.many.Comings.{came_none, came_on}
 

@@ -1,5 +1,4 @@
-use Rattle.std.proofs.Common.{◌++◌, ◌∙◌, ap, codes}
-use Rattle.qs_dot.specs.DotText.{IsDotText}
+use Rattle.qs_dot.proofs.Common.{◌++◌, ◌∙◌, ap, codes, IsDotText}
 use Rattle.qs_dot.proofs.blocks.dot_text.Goals as goal
 
 pub returns : goal.returns

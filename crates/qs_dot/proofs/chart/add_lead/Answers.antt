@@ -1,7 +1,5 @@
-use Rattle.std.proofs.Common.{◌≡◌, Some, slice_get, sym, ◌∙◌, true≢false}
-use Rattle.qs_standings.specs.Standings.{GoesOn}
+use Rattle.qs_dot.proofs.Common.{◌≡◌, Some, slice_get, sym, ◌∙◌, true≢false, GoesOn, IsStanding}
 use Rattle.qs_dot.proofs.Charting.{each_got, got_at, got_on, lead_added, lead_skipped, leads_on, some_at}
-use Rattle.qs_standings.specs.Standings.{IsStanding}
 use Rattle.qs_standings.proofs.going.GoingSets.{in_set, out_of_set}
 use Rattle.qs_dot.proofs.chart.add_lead.Goals as goal
 use Rattle.qs_dot.proofs.chart.add_lead.Goals.{After-index}

@@ -1,5 +1,4 @@
-use Rattle.std.proofs.Common.{arith, subst}
-use Rattle.qs_dot.specs.Charts.{AreLeadsUpTo}
+use Rattle.qs_dot.proofs.Common.{arith, subst, AreLeadsUpTo}
 use Rattle.qs_dot.proofs.Charting.{place_done}
 use Rattle.qs_dot.proofs.chart.add_leads.Goals as goal
 

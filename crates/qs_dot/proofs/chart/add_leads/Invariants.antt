@@ -1,5 +1,4 @@
-use Rattle.qs_dot.specs.Charts.{AreCharted, AreLeadsUpTo, AreMore}
-use Rattle.qs_standings.specs.Rows.{rows_in}
+use Rattle.qs_dot.proofs.Common.{AreCharted, AreLeadsUpTo, AreMore, rows_in}
 use Rattle.qs_dot.proofs.chart.add_leads.Given as goal
 
 abbrev pub invariant-loop-client : goal.invariant-loop-client

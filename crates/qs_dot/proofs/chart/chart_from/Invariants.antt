@@ -1,7 +1,4 @@
-use Rattle.std.proofs.Common.{◌≤◌, ◌-◌, length}
-use Rattle.qs_meaning.specs.audit.Configurations.{configuration_after}
-use Rattle.qs_dot.specs.Charts.{AreCharted, AreLeadsUpTo, HasPlaceFor}
-use Rattle.qs_standings.specs.Rows.{rows_in}
+use Rattle.qs_dot.proofs.Common.{◌≤◌, ◌-◌, length, configuration_after, AreCharted, AreLeadsUpTo, HasPlaceFor, rows_in}
 use Rattle.qs_dot.proofs.chart.chart_from.Given as goal
 
 abbrev pub invariant-loop-at : goal.invariant-loop-at

@@ -1,5 +1,4 @@
-use Rattle.std.proofs.Common.{refl}
-use Rattle.qs_dot.specs.ChartDot.{colours_text}
+use Rattle.qs_dot.proofs.Common.{refl, colours_text}
 use Rattle.qs_dot.proofs.chart_text.colours.Goals as goal
 
 pub returns : goal.returns

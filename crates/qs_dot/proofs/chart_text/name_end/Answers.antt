@@ -1,5 +1,4 @@
-use Rattle.std.proofs.Common.{refl}
-use Rattle.qs_dot.specs.ChartDot.{name_end}
+use Rattle.qs_dot.proofs.Common.{refl, name_end}
 use Rattle.qs_dot.proofs.chart_text.name_end.Goals as goal
 
 pub returns : goal.returns

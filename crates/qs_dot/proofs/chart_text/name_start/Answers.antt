@@ -1,5 +1,4 @@
-use Rattle.std.proofs.Common.{refl}
-use Rattle.qs_dot.specs.ChartDot.{name_start}
+use Rattle.qs_dot.proofs.Common.{refl, name_start}
 use Rattle.qs_dot.proofs.chart_text.name_start.Goals as goal
 
 pub returns : goal.returns

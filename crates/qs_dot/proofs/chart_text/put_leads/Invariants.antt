@@ -1,6 +1,5 @@
 -- The leads before this one are there.
-use Rattle.std.proofs.Common.{◌≡◌, ◌++◌, flat_map, take}
-use Rattle.qs_dot.specs.ChartDot.{lead_line}
+use Rattle.qs_dot.proofs.Common.{◌≡◌, ◌++◌, flat_map, take, lead_line}
 use Rattle.qs_dot.proofs.chart_text.put_leads.Given as goal
 
 abbrev pub invariant-loop-lead : goal.invariant-loop-lead

@@ -1,6 +1,4 @@
-use Rattle.std.proofs.Common.{◌++◌, ◌∙◌, ap, codes}
-use Rattle.std.proofs.lemmas.Result.{on_ok_weaker}
-use Rattle.qs_dot.specs.ChartDot.{close_text, colours_text, layout_text}
+use Rattle.qs_dot.proofs.Common.{◌++◌, ◌∙◌, ap, codes, on_ok_weaker, close_text, colours_text, layout_text}
 use Rattle.qs_dot.proofs.Parts.{then}
 use Rattle.qs_dot.proofs.chart_text.put_look.Goals as goal
 

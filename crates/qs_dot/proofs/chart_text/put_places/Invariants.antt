@@ -1,7 +1,5 @@
 -- The places before this one are there.
-use Rattle.std.proofs.Common.{◌≡◌, ◌++◌}
-use Rattle.qs_text.specs.audit.Texts.{texts_up_to}
-use Rattle.qs_dot.specs.ChartDot.{place_line}
+use Rattle.qs_dot.proofs.Common.{◌≡◌, ◌++◌, texts_up_to, place_line}
 use Rattle.qs_dot.proofs.chart_text.put_places.Given as goal
 
 abbrev pub invariant-loop-place : goal.invariant-loop-place

@@ -1,6 +1,5 @@
 -- None of the outcomes before this one holds the same, and each of them was counted.
-use Rattle.std.proofs.Common.{◌≡◌, ◌+◌, drop}
-use Rattle.qs_dot.specs.EndText.{number_in}
+use Rattle.qs_dot.proofs.Common.{◌≡◌, ◌+◌, drop, number_in}
 use Rattle.qs_dot.proofs.end_text.number_in.Given as goal
 
 abbrev pub invariant-loop-standing : goal.invariant-loop-standing

@@ -1,7 +1,5 @@
 -- The clients before this number are there.
-use Rattle.std.proofs.Common.{◌≡◌, ◌++◌}
-use Rattle.qs_text.specs.audit.Texts.{texts_up_to}
-use Rattle.qs_dot.specs.EndText.{client_text}
+use Rattle.qs_dot.proofs.Common.{◌≡◌, ◌++◌, texts_up_to, client_text}
 use Rattle.qs_dot.proofs.end_text.put_clients.Given as goal
 
 abbrev pub invariant-loop-client : goal.invariant-loop-client

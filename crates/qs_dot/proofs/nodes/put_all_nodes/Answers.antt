@@ -1,6 +1,4 @@
-use Rattle.qs_text.specs.Blocks.{node_at}
-use Rattle.qs_text.proofs.Joined.{one_place_more}
-use Rattle.qs_dot.specs.DotText.{node_text}
+use Rattle.qs_dot.proofs.Common.{node_at, one_place_more, node_text}
 use Rattle.qs_dot.proofs.Parts.{then}
 use Rattle.qs_dot.proofs.nodes.put_all_nodes.Goals as goal
 

@@ -1,8 +1,5 @@
 -- The nodes before this number are there.
-use Rattle.std.proofs.Common.{◌≡◌, ◌++◌}
-use Rattle.qs_text.specs.Blocks.{node_at}
-use Rattle.qs_text.specs.audit.Texts.{texts_up_to}
-use Rattle.qs_dot.specs.DotText.{node_text}
+use Rattle.qs_dot.proofs.Common.{◌≡◌, ◌++◌, node_at, texts_up_to, node_text}
 use Rattle.qs_dot.proofs.nodes.put_all_nodes.Given as goal
 
 abbrev pub invariant-loop-n : goal.invariant-loop-n

@@ -1,8 +1,5 @@
 -- The edges before this one are there.
-use Rattle.std.proofs.Common.{◌≡◌, ◌++◌}
-use Rattle.qs_graph.specs.audit.Nodes.{place_at}
-use Rattle.qs_text.specs.audit.Texts.{texts_up_to}
-use Rattle.qs_dot.specs.DotText.{edge_line}
+use Rattle.qs_dot.proofs.Common.{◌≡◌, ◌++◌, place_at, texts_up_to, edge_line}
 use Rattle.qs_dot.proofs.nodes.put_edges.Given as goal
 
 abbrev pub invariant-loop-place : goal.invariant-loop-place

@@ -1,11 +1,5 @@
-use Rattle.std.proofs.Common.{◌++◌, ◌∙◌, ap, codes, filter}
+use Rattle.qs_dot.proofs.Common.{◌++◌, ◌∙◌, ap, codes, filter, on_ok_weaker, place_at, has, removed_at, head_text, held_text, place_text, written}
 use Rattle.std.specs.Prelude.{slice_get}
-use Rattle.std.proofs.lemmas.Result.{on_ok_weaker}
-use Rattle.qs_graph.specs.audit.Nodes.{place_at}
-use Rattle.qs_syncset.specs.held.Table.{has}
-use Rattle.qs_text.specs.Blocks.{removed_at}
-use Rattle.qs_dot.specs.DotText.{head_text, held_text, place_text}
-use Rattle.qs_dot.specs.Written.{written}
 use Rattle.qs_dot.proofs.Parts.{then}
 use Rattle.qs_dot.proofs.nodes.put_line.Goals as goal
 

@@ -1,7 +1,5 @@
 -- None of the places before this one differs.
-use Rattle.std.proofs.Common.{◌≡◌, drop}
-use Rattle.std.specs.List.{list_any}
-use Rattle.qs_dot.specs.ShortText.{differs}
+use Rattle.qs_dot.proofs.Common.{◌≡◌, drop, list_any, differs}
 use Rattle.qs_dot.proofs.short_text.any_differs.Given as goal
 
 abbrev pub invariant-loop-standing : goal.invariant-loop-standing

@@ -1,7 +1,5 @@
 -- The values before this place are there.
-use Rattle.std.proofs.Common.{◌≡◌, ◌++◌}
-use Rattle.qs_objects.specs.audit.Objects.{values_of}
-use Rattle.qs_text.specs.audit.Texts.{spaced_value, texts_up_to}
+use Rattle.qs_dot.proofs.Common.{◌≡◌, ◌++◌, values_of, spaced_value, texts_up_to}
 use Rattle.qs_dot.proofs.short_text.put_first_values.Given as goal
 
 abbrev pub invariant-loop-place : goal.invariant-loop-place

@@ -1,5 +1,4 @@
-use Rattle.std.proofs.Common.{append_assoc, rules}
-use Rattle.std.proofs.lemmas.Result.{IfOk-equal}
+use Rattle.qs_dot.proofs.Common.{append_assoc, rules, IfOk-equal}
 use Rattle.qs_dot.proofs.written.put_call.Goals as goal
 
 pub returns : goal.returns

@@ -1,6 +1,5 @@
 -- The values before this one are there, each after a comma.
-use Rattle.std.proofs.Common.{◌≡◌, ◌++◌, codes, flat_map, take}
-use Rattle.qs_dot.specs.Written.{atom_text}
+use Rattle.qs_dot.proofs.Common.{◌≡◌, ◌++◌, codes, flat_map, take, atom_text}
 use Rattle.qs_dot.proofs.written.put_others.Given as goal
 
 abbrev pub invariant-loop-atom : goal.invariant-loop-atom

@@ -1,31 +1,17 @@
-use Rattle.std.proofs.Common.{◌≡◌, ◌≤◌, ◌+◌, Err, [], ap, arith, length, subst, suc, sym}
-use Rattle.qs_levels.proofs.Common.{err_from_is_err_and, IsLegal, Limit, nil_from_length}
-use Rattle.qs_levels.specs.meaning.Fronts.{AreFrontsAfter}
-use Rattle.qs_levels.specs.meaning.Levels.{IsLevel}
+use Rattle.qs_levels.proofs.Common.{◌≡◌, ◌≤◌, ◌+◌, [], ap, arith, length, subst, suc, sym, err_from_is_err_and, IsLegal, nil_from_length, AreFrontsAfter, IsLevel, HasMoreFronts, rules}
 use Rattle.qs_levels.proofs.meaning.Reaching.{fronts_of, level_first, level_on, none_later}
-use Rattle.qs_levels.specs.MoreFronts.{HasMoreFronts}
 use Rattle.qs_levels.proofs.MoreFronts.{few_first, few_later, few_next, more_on, more_than_no_fronts}
 use Rattle.qs_levels.proofs.fronts.fronts_from.Goals as goal
-use Rattle.qs_levels.proofs.fronts.fronts_from.Goals.{In_ok-level, In_ok-level-2}
+use Rattle.qs_levels.proofs.fronts.fronts_from.Goals.{In_ok-level-2}
 
 pub returns-in_err-level-clause-many : goal.returns-in_err-level-clause-many
-returns-in_err-level-clause-many c = λ is.
-    let p = err_from_is_err_and c.from_residual-in_err-level.result c.from_residual-in_err-level.ensures.1 in
-    let same : c.in_err-level.field-0.0 ≡ Limit = cc (p.1, p.2) in
-    let none = c.in_err-level.ensures.limit (ap (λ e. Err e) same) in
-    subst (HasMoreFronts c.args.program.now c.args.front.now c.args.blocks) (sym none)
-    (more_than_no_fronts c.args.program.now c.args.front.now c.args.first c.args.blocks c.requires.first)
+returns-in_err-level-clause-many c = search (rules, err_from_is_err_and, more_than_no_fronts)
 
 pub loop-done-init : goal.loop-done-init
 loop-done-init c =
-    let is : IsLevel c.args.program.now c.args.front.now 0 c.in_ok-level.level.standings =
-    subst (IsLevel c.args.program.now c.args.front.now 0) (sym c.in_ok-level.ensures.first) (level_first c.args.program.now c.args.front.now c.args.first c.requires.first) in
+    let is : IsLevel c.args.program.now c.args.front.now 0 c.in_ok-level.level.standings = rw c.in_ok-level.ensures.first (level_first _ _ c.args.first c.requires.first) in
     let small : length c.in_ok-level.level.standings ≤ c.args.limit = (let one = ap length c.in_ok-level.ensures.first in let within = c.in_ok-level.ensures.within in omega (arith, one, within)) in
     record { level = is; going = c.in_ok-level.ensures.going; small = small; few = few_first c.args.program.now c.args.front.now c.args.limit c.in_ok-level.level.standings is small }
-
-pub after_level-requires-clause-level : goal.after_level-requires-clause-level
-after_level-requires-clause-level c =
-    (c.loop-done.done, c.loop-done.invariant.level)
 
 next_is : (c : In_ok-level-2) → IsLevel c.args.program.now c.args.front.now (suc c.loop-done.done) c.in_ok-level-2.level.standings
 next_is c =
@@ -36,11 +22,7 @@ next_few : (c : In_ok-level-2) → HasMoreFronts c.args.program.now c.args.front
 next_few c = few_next c.args.program.now c.args.front.now c.loop-done.done c.args.limit c.in_ok-level-2.level.standings (next_is c) c.in_ok-level-2.ensures.small c.loop-done.invariant.few
 
 pub returns-in_err-level-2-clause-many : goal.returns-in_err-level-2-clause-many
-returns-in_err-level-2-clause-many c = λ is.
-    let p = err_from_is_err_and c.from_residual-in_err-level-2.result c.from_residual-in_err-level-2.ensures.1 in
-    let same : c.in_err-level-2.field-0.0 ≡ Limit = cc (p.1, p.2) in
-    more_on c.args.program.now c.args.front.now c.loop-done.done c.args.blocks c.args.limit c.loop-done.level.standings c.loop-done.invariant.level c.loop-done-test.true
-    (c.in_err-level-2.ensures.limit (ap (λ e. Err e) same))
+returns-in_err-level-2-clause-many c = search (rules, err_from_is_err_and, more_on)
 
 pub loop-done-preserved : goal.loop-done-preserved
 loop-done-preserved c = record {
@@ -58,9 +40,8 @@ none_next c none = subst (IsLevel c.args.program.now c.args.front.now (suc c.loo
 
 pub returns-then-len-eq0-clause-fronts : goal.returns-then-len-eq0-clause-fronts
 returns-then-len-eq0-clause-fronts c =
-    subst (AreFrontsAfter c.args.program.now c.args.front.now c.args.blocks) (sym c.new.ensures.items)
-    (fronts_of c.args.program.now c.args.front.now c.args.blocks [] (subst (IsLegal c.args.program.now) c.requires.first.order c.requires.first.standing.legal)
-    (none_later c.args.program.now c.args.front.now (suc c.loop-done.done) c.args.blocks (let more = c.loop-done-test.true in omega (arith, more))
+    rw c.new.ensures.items (fronts_of _ _ c.args.blocks [] (subst (IsLegal c.args.program.now) c.requires.first.order c.requires.first.standing.legal)
+    (none_later _ _ (suc c.loop-done.done) c.args.blocks (let more = c.loop-done-test.true in omega (arith, more))
     (none_next (goal.at.returns-then-len-eq0-clause-fronts c).In_ok-level-2 (let n = c.if-len-eq0.true in let e = c.len.ensures.len in omega (arith, n, e)))))
 
 pub returns-then-len-eq0-clause-few : goal.returns-then-len-eq0-clause-few
@@ -70,11 +51,7 @@ returns-then-len-eq0-clause-few c =
     (none_next next (let n = c.if-len-eq0.true in let e = c.len.ensures.len in omega (arith, n, e))) (next_few next)
 
 pub returns-clause-fronts : goal.returns-clause-fronts
-returns-clause-fronts c =
-    subst (AreFrontsAfter c.args.program.now c.args.front.now c.args.blocks) (sym c.in_ok-found.ensures.all)
-    (fronts_of c.args.program.now c.args.front.now c.args.blocks c.loop-done.level.standings (subst (IsLegal c.args.program.now) c.requires.first.order c.requires.first.standing.legal)
-    (subst (λ k. IsLevel c.args.program.now c.args.front.now k c.loop-done.level.standings) {x = c.loop-done.done} {y = c.args.blocks}
-    (let e = c.loop-done.auto.done-end in let o = c.loop-done-test.false in omega (arith, e, o)) c.loop-done.invariant.level))
+returns-clause-fronts c = search (rules, fronts_of)
 
 pub returns-clause-few : goal.returns-clause-few
 returns-clause-few c =

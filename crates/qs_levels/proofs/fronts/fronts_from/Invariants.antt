@@ -1,7 +1,4 @@
-use Rattle.std.proofs.Common.{◌≤◌, length}
-use Rattle.qs_levels.specs.meaning.Levels.{IsLevel}
-use Rattle.qs_levels.specs.MoreFronts.{HasMoreFronts}
-use Rattle.qs_levels.specs.Shares.{AreGoing}
+use Rattle.qs_levels.proofs.Common.{◌≤◌, length, IsLevel, HasMoreFronts, AreGoing}
 use Rattle.qs_levels.proofs.fronts.fronts_from.Given as goal
 
 abbrev pub invariant-loop-done : goal.invariant-loop-done

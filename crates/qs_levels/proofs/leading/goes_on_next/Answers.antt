@@ -1,10 +1,9 @@
-use Rattle.std.proofs.Common.{ap, sym, ◌∙◌}
-use Rattle.qs_levels.proofs.Common.{Configuration, configuration_in, goes_left, goes_on}
+use Rattle.qs_levels.proofs.Common.{ap, sym, ◌∙◌, Configuration, configuration_in, goes_left, goes_on, rules}
 use Rattle.qs_levels.proofs.GoingAgain.{goes_on_again}
 use Rattle.qs_levels.proofs.leading.goes_on_next.Goals as goal
 
 pub reserves_again-requires-clause-left : goal.reserves_again-requires-clause-left
-reserves_again-requires-clause-left c = goes_left c.args.search.now.program.now c.args.source.now.standing.now c.args.client c.requires.goes
+reserves_again-requires-clause-left c = search (rules, goes_left)
 
 pub returns-then-reserves_again : goal.returns-then-reserves_again
 returns-then-reserves_again c = record {

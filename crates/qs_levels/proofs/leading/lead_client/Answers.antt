@@ -1,16 +1,14 @@
-use Rattle.std.proofs.Common.{◌≡◌, ◌++◌, ◌∷◌, [], Err, ap, subst, inl, inr, sym, ◌∙◌, refl, arith, true, false, length-append}
-use Rattle.qs_levels.proofs.Common.{block_next, configuration_in, drafted, each_snoc, err_from_is_err_and, goes_left, goes_on, has_map, in_byte, IsNext, Limit, row_of, rows_in, standing_with_block, StandingShape}
+use Rattle.qs_levels.proofs.Common.{◌≡◌, ◌++◌, ◌∷◌, [], Err, ap, subst, inl, inr, sym, ◌∙◌, refl, arith, true, false, length-append, block_next, drafted, each_snoc, rules}
+use Rattle.qs_levels.proofs.Common.{err_from_is_err_and, goes_left, has_map, IsNext, Limit, row_of, rows_in, standing_with_block, StandingShape, tabled}
 use Rattle.qs_outcomes.specs.Search.{IsNoted}
-use Rattle.qs_levels.specs.Leads.{AreKnown, tabled}
-use Rattle.qs_levels.specs.Founds.{Found}
 use Rattle.qs_levels.proofs.leading.lead_client.Goals as goal
 use Rattle.qs_levels.proofs.leading.lead_client.Goals.{In_ok-put_next, In_ok-run_next, In_ok-write_next_row}
 
 pub run_next-requires-clause-left : goal.run_next-requires-clause-left
-run_next-requires-clause-left c = goes_left c.args.step.now.search.program.now c.args.source.now.standing.now c.args.client c.requires.goes
+run_next-requires-clause-left c = search (rules, goes_left)
 
 pub write_next_row-requires-clause-left : goal.write_next_row-requires-clause-left
-write_next_row-requires-clause-left c = goes_left c.args.step.now.search.program.now c.args.source.now.standing.now c.args.client c.requires.goes
+write_next_row-requires-clause-left c = search (rules, goes_left)
 
 is_next : (c : In_ok-run_next) → IsNext c.args.step.now.search.program.now c.args.step.now.search.front.now c.args.source.now.standing.now c.args.client (standing_with_block c.args.source.now.standing.now c.args.client c.run_next.new.values c.run_next.new.left.items)
 is_next c = block_next c.args.step.now.search.program.now c.args.step.now.search.front.now c.args.source.now.standing.now c.args.client _ _ c.requires.standing c.requires.client c.requires.goes c.in_ok-run_next.ensures.ran
@@ -40,8 +38,7 @@ returns-in_err-note-clause-limit c = λ is.
     let row = row_is (goal.at.returns-in_err-note-clause-limit c).In_ok-write_next_row in
     let next = is_next (goal.at.returns-in_err-note-clause-limit c).In_ok-run_next in
     let p = err_from_is_err_and c.from_residual-in_err-note.result c.from_residual-in_err-note.ensures.1 in
-    let same : c.in_err-note.field-0.0 ≡ Limit = cc (p.1, p.2) in
-    let full = c.in_err-note.ensures.full (ap (λ e. Err e) same) in (
+    let full = c.in_err-note.ensures.full (cc (p.1, p.2)) in (
       _,
       (_, next, inl ((λ h. full.1 (has_map (λ r e. row ∙ e) (rows_in c.args.table.now.rows.keys) h)), 0, refl)),
       length-append (rows_in c.args.table.now.rows.keys) (_ ∷ []) ∙ omega (arith, full.0),
@@ -51,8 +48,7 @@ pub returns-then-not-branch-clause-led : goal.returns-then-not-branch-clause-led
 returns-then-not-branch-clause-led c =
     let row = row_is (goal.at.returns-then-not-branch-clause-led c).In_ok-write_next_row in
     let rows = rows_in c.args.table.now.rows.keys in
-    let noted : IsNoted rows (drafted c.write_next_row.new.scratch.row) c.args.step.now.room false (rows_in c.note.new.rows.keys) =
-    subst (λ b. IsNoted rows (drafted c.write_next_row.new.scratch.row) c.args.step.now.room b (rows_in c.note.new.rows.keys)) c.if-not-branch.true c.in_ok-note.ensures.noted in (
+    let noted = rw c.if-not-branch.true at c.in_ok-note.ensures.noted in (
       _,
       is_next (goal.at.returns-then-not-branch-clause-led c).In_ok-run_next,
       inr (
@@ -62,14 +58,13 @@ returns-then-not-branch-clause-led c =
     )
 
 pub put_next-requires-clause-left : goal.put_next-requires-clause-left
-put_next-requires-clause-left c = goes_left c.args.step.now.search.program.now c.args.source.now.standing.now c.args.client c.requires.goes
+put_next-requires-clause-left c = search (rules, goes_left)
 
 pub returns-clause-led : goal.returns-clause-led
 returns-clause-led c =
     let row = row_is (goal.at.returns-clause-led c).In_ok-write_next_row in
     let rows = rows_in c.args.table.now.rows.keys in
-    let noted : IsNoted rows (drafted c.write_next_row.new.scratch.row) c.args.step.now.room true (rows_in c.note.new.rows.keys) =
-    subst (λ b. IsNoted rows (drafted c.write_next_row.new.scratch.row) c.args.step.now.room b (rows_in c.note.new.rows.keys)) c.if-not-branch.false c.in_ok-note.ensures.noted in (
+    let noted = rw c.if-not-branch.false at c.in_ok-note.ensures.noted in (
       _,
       is_next (goal.at.returns-clause-led c).In_ok-run_next,
       inl (
@@ -84,11 +79,7 @@ returns-clause-led c =
     )
 
 pub goes_on_next-going-requires-clause-next : goal.goes_on_next-going-requires-clause-next
-goes_on_next-going-requires-clause-next c =
-    subst (IsNext c.args.step.now.search.program.now c.args.step.now.search.front.now c.args.source.now.standing.now c.args.client) (sym (there (goal.at.goes_on_next-going-requires-clause-next c).In_ok-put_next))
-    (is_next (goal.at.goes_on_next-going-requires-clause-next c).In_ok-run_next)
+goes_on_next-going-requires-clause-next c = let at = goal.at.goes_on_next-going-requires-clause-next c in rw (there at.In_ok-put_next) (is_next at.In_ok-run_next)
 
 pub returns-clause-known : goal.returns-clause-known
-returns-clause-known c =
-    subst (AreKnown c.args.step.now.search.program.now) (sym c.in_ok-add_found.ensures.added)
-    (each_snoc (λ (f : Found). in_byte f.going ≡ goes_on c.args.step.now.search.program.now (configuration_in f.standing).begun) (tabled c.args.table.now).found _ c.requires.known c.goes_on_next-going.ensures.going)
+returns-clause-known c = search (rules, each_snoc)

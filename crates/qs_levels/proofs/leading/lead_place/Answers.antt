@@ -1,9 +1,4 @@
-use Rattle.std.proofs.Common.{◌∙◌, ap, length, slice_index_or, subst, sym}
-use Rattle.qs_levels.proofs.Common.{configuration_in, goes_on, in_byte, in_none, IsStanding, StandingShape, zip_at}
-use Rattle.qs_levels.specs.Founds.{no_standing}
-use Rattle.qs_levels.specs.Leads.{tabled}
-use Rattle.qs_levels.specs.Shares.{AreTaken, IsGoing}
-use Rattle.qs_levels.specs.declared.level.Going.{Going}
+use Rattle.qs_levels.proofs.Common.{◌∙◌, ap, length, slice_index_or, subst, sym, configuration_in, goes_on, in_byte, in_none, StandingShape, zip_at, no_standing, tabled, IsGoing, rules, Going}
 use Rattle.qs_levels.proofs.Keeping.{none_up_to}
 use Rattle.qs_levels.proofs.meaning.Lists.{each_at}
 use Rattle.qs_levels.proofs.leading.lead_place.Goals as goal
@@ -15,13 +10,7 @@ returns-then-taken-eq0-clause-led c =
     (λ d less. sym (c.taken-taken.ensures.taken d less) ∙ (ap (λ set. in_byte set d) c.if-taken-eq0.true ∙ in_none d))
 
 pub lead_standing-requires-clause-standing : goal.lead_standing-requires-clause-standing
-lead_standing-requires-clause-standing c =
-    subst (IsStanding c.args.step.now.search.program.now c.args.step.now.search.front.now) (sym c.in_ok-load.ensures.loaded)
-    (each_at (IsStanding c.args.step.now.search.program.now c.args.step.now.search.front.now) c.args.step.now.level.now.standings c.args.place no_standing c.requires.within c.requires.level)
-
-pub lead_standing-requires-clause-taken : goal.lead_standing-requires-clause-taken
-lead_standing-requires-clause-taken c =
-    subst (λ s. AreTaken c.args.step.now.search.program.now c.args.share.number c.args.share.count s c.taken-taken.result) (sym c.in_ok-load.ensures.loaded) c.taken-taken.ensures.taken
+lead_standing-requires-clause-standing c = search (rules, each_at)
 
 pub lead_standing-requires-clause-going : goal.lead_standing-requires-clause-going
 lead_standing-requires-clause-going c =

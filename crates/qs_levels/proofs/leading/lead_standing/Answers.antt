@@ -1,21 +1,16 @@
-use Rattle.std.proofs.Common.{◌≡◌, ◌<◌, ◌+◌, ◌≤◌, Err, ap, arith, length, subst, suc, sym, true, false, true≢false, ◌∙◌}
-use Rattle.qs_levels.proofs.Common.{drafted, err_from_is_err_and, in_set, Limit, out_of_set}
-use Rattle.qs_levels.specs.Leads.{AreEven, AreKnown, IsLedOn, IsLedUpTo, tabled}
-use Rattle.qs_levels.specs.Shares.{is_taken}
+use Rattle.qs_levels.proofs.Common.{◌≡◌, ◌<◌, ◌+◌, ◌≤◌, Err, ap, arith, length, subst, suc, sym, true, false, true≢false, ◌∙◌, drafted, err_from_is_err_and, in_set, Limit, out_of_set, AreEven, rules}
+use Rattle.qs_levels.proofs.Common.{AreKnown, IsLedOn, IsLedUpTo, tabled, is_taken}
 use Rattle.qs_levels.proofs.NextLevels.{taken_goes}
 use Rattle.qs_levels.proofs.leading.lead_standing.Goals as goal
 use Rattle.qs_levels.proofs.leading.lead_standing.Goals.{then-source-client-eq1+in_ok-lead_client, else-source-client-eq1}
 
 pub lead_client-requires-clause-goes : goal.lead_client-requires-clause-goes
-lead_client-requires-clause-goes c =
-    taken_goes c.args.step.now.search.program.now c.args.share.number c.args.share.count c.args.source.now.standing.now c.loop-client.client
-    (sym (c.requires.taken c.loop-client.client (let e = c.clients-client-end.ensures.value in let l = c.loop-client-test.true in omega (arith, e, l))) ∙ in_set c.args.source.now.taken c.loop-client.client c.if-source-client-eq1.true)
+lead_client-requires-clause-goes c = search (rules, in_set, taken_goes)
 
 pub returns-in_err-lead_client-clause-limit : goal.returns-in_err-lead_client-clause-limit
 returns-in_err-lead_client-clause-limit c = λ is.
     let p = err_from_is_err_and c.from_residual-in_err-lead_client.result c.from_residual-in_err-lead_client.ensures.1 in
-    let same : c.in_err-lead_client.field-0.0 ≡ Limit = cc (p.1, p.2) in
-    let more = c.in_err-lead_client.ensures.limit (ap (λ e. Err e) same) in
+    let more = c.in_err-lead_client.ensures.limit (cc (p.1, p.2)) in
     let taken : is_taken c.args.step.now.search.program.now c.args.share.number c.args.share.count c.args.source.now.standing.now c.loop-client.client ≡ true = sym (c.requires.taken c.loop-client.client (let e = c.clients-client-end.ensures.value in let l = c.loop-client-test.true in omega (arith, e, l))) ∙ in_set c.args.source.now.taken c.loop-client.client c.if-source-client-eq1.true in
     (suc c.loop-client.client, more.0, (tabled c.loop-client.table, c.loop-client.invariant.led, (λ e. more.1), (λ off. absurd (true≢false (sym taken ∙ off)))), more.2)
 

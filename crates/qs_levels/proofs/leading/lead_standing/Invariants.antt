@@ -1,6 +1,4 @@
-use Rattle.std.proofs.Common.{◌≡◌, ◌≤◌, length}
-use Rattle.qs_levels.proofs.Common.{drafted, row_of}
-use Rattle.qs_levels.specs.Leads.{AreEven, AreKnown, IsLedUpTo, tabled}
+use Rattle.qs_levels.proofs.Common.{◌≡◌, ◌≤◌, length, drafted, row_of, AreEven, AreKnown, IsLedUpTo, tabled}
 use Rattle.qs_levels.proofs.leading.lead_standing.Given as goal
 
 abbrev pub invariant-loop-client : goal.invariant-loop-client

@@ -1,5 +1,4 @@
-use Rattle.std.proofs.Common.{◌≤◌, length, take}
-use Rattle.qs_levels.specs.Leads.{AreEven, AreKnown, IsTableOf, leads, tabled}
+use Rattle.qs_levels.proofs.Common.{◌≤◌, length, take, AreEven, AreKnown, IsTableOf, leads, tabled}
 use Rattle.qs_levels.proofs.leading.led_on.Given as goal
 
 abbrev pub invariant-loop-place : goal.invariant-loop-place

@@ -1,9 +1,5 @@
-use Rattle.std.proofs.Common.{◌≡◌, ◌<◌, ◌≤◌, ◌∙◌, ◌∷◌, [], ◌++◌, None, Some, ap, arith, length, replicate, slice_index_or, subst, suc, sym}
-use Rattle.qs_levels.proofs.Common.{AllByRecursion, each_snoc, length-replicate, length-set, slice_set}
-use Rattle.qs_levels.specs.Founds.{IsSpot, LevelShape, level_in}
-use Rattle.qs_levels.specs.meaning.Levels.{IsNextOf}
-use Rattle.qs_levels.specs.Shares.{AreGoing}
-use Rattle.qs_levels.specs.Merging.{IsLeastPart, rests_of, spot_of}
+use Rattle.qs_levels.proofs.Common.{◌≡◌, ◌<◌, ◌≤◌, ◌∙◌, ◌∷◌, [], ◌++◌, None, Some, ap, arith, length, replicate, slice_index_or, subst, suc, sym, AllByRecursion, each_snoc, length-replicate, rules}
+use Rattle.qs_levels.proofs.Common.{length-set, slice_set, IsSpot, LevelShape, level_in, IsNextOf, IsLeastPart, rests_of, spot_of}
 use Rattle.qs_levels.proofs.Merged.{IsMerging, IsNextTaken, all_in, left_in, merging_begins, merging_ends, next_taken, none_taken, taking_goes_on, taking_shrinks}
 use Rattle.qs_levels.proofs.merging.merged.Goals as goal
 use Rattle.qs_levels.proofs.merging.merged.Goals.{In_ok-places, In-Some}
@@ -14,28 +10,20 @@ begins c = subst (λ n. c.in_ok-places.places.items ≡ replicate n 0) (let e = 
 
 pub loop-number-init : goal.loop-number-init
 loop-number-init c =
-    let p = c.args.step.now.search.program.now in
     let parts = c.args.parts.items in
     let begun = begins (goal.at.loop-number-init c).In_ok-places in
-    let none = c.clear.ensures.items in
     record {
       even = ap length begun ∙ length-replicate (length parts) 0;
-      spots = subst (AllByRecursion (IsSpot parts)) (sym none) tt;
-      merging = subst (λ spots. IsMerging p c.args.step.now.search.front.now (length parts) c.args.step.now.level.now.standings (all_in parts) (rests_of c.in_ok-places.places.items parts) (level_in parts spots).standings (level_in parts spots).going)
-          (sym none)
-          (subst (λ rs. IsMerging p c.args.step.now.search.front.now (length parts) c.args.step.now.level.now.standings (all_in parts) rs [] []) (sym (ap (λ ns. rests_of ns parts) begun ∙ none_taken parts))
-          (merging_begins p c.args.step.now.search.front.now c.args.step.now.level.now.standings parts c.requires.parts));
+      spots = subst (AllByRecursion (IsSpot parts)) (sym c.clear.ensures.items) tt;
+      merging = rw (c.clear.ensures.items, begun, none_taken parts)
+          (merging_begins c.args.step.now.search.program.now c.args.step.now.search.front.now c.args.step.now.level.now.standings parts c.requires.parts);
     }
 
 -- what is taken next
 next_one : (c : In-Some) → IsNextTaken c.args.parts.items c.loop-number.places.items c.in-Some.number
 next_one c =
     next_taken c.args.parts.items c.loop-number.places.items c.in-Some.number c.loop-number.invariant.even
-    (subst (λ ps. IsLeastPart (rests_of c.loop-number.places.items ps) (Some c.in-Some.number)) c.as_slice.ensures.value
-    (subst (λ ns. IsLeastPart (rests_of ns c.as_slice.result.now) (Some c.in-Some.number)) c.as_slice-in-loop-number.ensures.value c.in-Some.ensures.least))
-
-pub least-requires : goal.least-requires
-least-requires c = record { even = ap length c.as_slice-in-loop-number.ensures.value ∙ (c.loop-number.invariant.even ∙ sym (ap length c.as_slice.ensures.value)) }
+    (rw (c.as_slice.ensures.value, c.as_slice-in-loop-number.ensures.value) at c.in-Some.ensures.least)
 
 pub take-requires : goal.take-requires
 take-requires c =
@@ -73,10 +61,7 @@ loop-number-preserved c =
       even = ap length c.in_ok-take.ensures.places ∙ (length-set places k (suc n) ∙ c.loop-number.invariant.even);
       spots = subst (AllByRecursion (IsSpot parts)) (sym added)
           (each_snoc (IsSpot parts) spots (spot_of parts k n) c.loop-number.invariant.spots (record { part = next.number; place = next.within }));
-      merging = subst (λ ns. IsMerging p front (length parts) level (all_in parts) (rests_of ns parts) (level_in parts c.take.new.spots.items).standings (level_in parts c.take.new.spots.items).going)
-          (sym c.in_ok-take.ensures.places)
-          (subst (λ ss. IsMerging p front (length parts) level (all_in parts) (rests_of (slice_set places k (suc n)) parts) (level_in parts ss).standings (level_in parts ss).going) (sym added)
-          (taking_goes_on p front level c.requires.level.1.sorted parts places spots k c.loop-number.invariant.even c.loop-number.invariant.merging next));
+      merging = rw (c.in_ok-take.ensures.places, added) (taking_goes_on p front level c.requires.level.1.sorted parts places spots k c.loop-number.invariant.even c.loop-number.invariant.merging next);
     }
 
 pub returns-clause-next : goal.returns-clause-next
@@ -85,14 +70,7 @@ returns-clause-next c =
     let parts = c.args.parts.items in
     let places = c.loop-number.places.items in
     let merging = c.loop-number.invariant.merging in
-    let none : IsLeastPart (rests_of places parts) None =
-    subst (λ ps. IsLeastPart (rests_of places ps) None) c.as_slice.ensures.value
-    (subst (λ ns. IsLeastPart (rests_of ns c.as_slice.result.now) None) c.as_slice-in-loop-number.ensures.value
-    (let least = c.least.ensures.least in subst (IsLeastPart (rests_of c.as_slice-in-loop-number.result.now c.as_slice.result.now)) c.in_default.is least)) in
+    let none : IsLeastPart (rests_of places parts) None = rw (c.as_slice.ensures.value, c.as_slice-in-loop-number.ensures.value, c.in_default.is) at c.least.ensures.least in
     subst (λ l. IsNextOf p c.args.step.now.search.front.now c.args.step.now.level.now.standings l) (sym (ap (λ (l : LevelShape). l.standings) c.new.ensures.level))
     (merging_ends p c.args.step.now.search.front.now c.keeps_sound.ensures.sound c.args.step.now.level.now.standings c.requires.level.1.sorted parts c.requires.some c.requires.parts (rests_of places parts)
     (level_in parts c.loop-number.spots.items).standings (level_in parts c.loop-number.spots.items).going merging none)
-
-pub returns-clause-going : goal.returns-clause-going
-returns-clause-going c =
-    subst (λ (l : LevelShape). AreGoing c.args.step.now.search.program.now (length c.args.parts.items) l.standings l.going) (sym c.new.ensures.level) c.loop-number.invariant.merging.going

@@ -1,7 +1,4 @@
-use Rattle.std.proofs.Common.{◌≡◌, length}
-use Rattle.std.specs.List.{AllByRecursion}
-use Rattle.qs_levels.specs.Founds.{IsSpot, level_in}
-use Rattle.qs_levels.specs.Merging.{rests_of}
+use Rattle.qs_levels.proofs.Common.{◌≡◌, length, AllByRecursion, IsSpot, level_in, rests_of}
 use Rattle.qs_levels.proofs.Merged.{IsMerging, all_in, left_in}
 use Rattle.qs_levels.proofs.merging.merged.Given as goal
 

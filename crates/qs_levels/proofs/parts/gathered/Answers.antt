@@ -1,6 +1,4 @@
-use Rattle.std.proofs.Common.{◌≡◌, ◌∷◌, [], IfOk, ap, arith, length, length-append, slice_index_or, subst, sym, ◌∙◌}
-use Rattle.qs_levels.specs.Leads.{IsPartOf}
-use Rattle.qs_levels.specs.Merging.{IsPartLed}
+use Rattle.qs_levels.proofs.Common.{◌≡◌, ◌∷◌, [], IfOk, ap, arith, length, length-append, slice_index_or, subst, sym, ◌∙◌, IsPartOf, IsPartLed}
 use Rattle.qs_levels.proofs.Merged.{parts_more}
 use Rattle.qs_levels.proofs.parts.gathered.Goals as goal
 
@@ -18,10 +16,8 @@ loop-number-preserved c =
     let part : IsPartOf p front number count level c.in_ok-part.part = subst (λ r. IfOk r (IsPartOf p front number count level)) c.in_ok-part.was led.ok in
     record {
       parts = λ i less.
-          subst (λ ps. IsPartOf p front i count level (slice_index_or ps i [])) (sym c.in_ok-add_part.ensures.added)
-          (parts_more p front level count c.loop-number.parts.items c.in_ok-part.part c.loop-number.invariant.parts
-          (subst (λ k. IsPartOf p front k count level c.in_ok-part.part) (sym c.loop-number.invariant.count) part) i
-          (let e = ap length c.in_ok-add_part.ensures.added in omega (arith, e, less)));
+          rw c.in_ok-add_part.ensures.added (parts_more p front level count c.loop-number.parts.items c.in_ok-part.part c.loop-number.invariant.parts
+          (subst (λ k. IsPartOf p front k count level c.in_ok-part.part) (sym c.loop-number.invariant.count) part) i (let e = ap length c.in_ok-add_part.ensures.added in omega (arith, e, less)));
       count = (let e = ap length c.in_ok-add_part.ensures.added in let f = length-append c.loop-number.parts.items (c.in_ok-part.part ∷ []) in let n = c.loop-number.invariant.count in omega (arith, e, f, n));
       long = c.taken.ensures.len ∙ c.loop-number.invariant.long;
       behind = λ k d past. c.taken.ensures.behind k d (omega (arith, past)) ∙ c.loop-number.invariant.behind k d (omega (arith, past));

@@ -1,5 +1,4 @@
-use Rattle.std.proofs.Common.{◌≡◌, ◌<◌, ◌≤◌, ℕ, [], length, slice_index_or, vec_len}
-use Rattle.qs_levels.specs.Leads.{IsPartOf}
+use Rattle.qs_levels.proofs.Common.{◌≡◌, ◌<◌, ◌≤◌, ℕ, [], length, slice_index_or, vec_len, IsPartOf}
 use Rattle.qs_levels.proofs.parts.gathered.Given as goal
 
 abbrev pub invariant-loop-number : goal.invariant-loop-number

@@ -1,5 +1,4 @@
-use denote.Param.Send.{sendable}
-use Rattle.std.proofs.Crossing.{crosses}
+use Rattle.qs_levels.proofs.Common.{sendable, crosses}
 use Rattle.qs_levels.proofs.Crossing.{step_sync}
 use Rattle.qs_levels.proofs.parts.led_parts.Goals as goal
 

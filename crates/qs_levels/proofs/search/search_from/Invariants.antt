@@ -1,6 +1,4 @@
-use Rattle.std.proofs.Common.{◌≤◌, ◌+◌, ◌-◌, length}
-use Rattle.qs_levels.specs.meaning.Levels.{IsSearched}
-use Rattle.qs_levels.specs.Shares.{AreGoing}
+use Rattle.qs_levels.proofs.Common.{◌≤◌, ◌+◌, ◌-◌, length, IsSearched, AreGoing}
 use Rattle.qs_levels.proofs.search.search_from.Given as goal
 
 abbrev pub invariant-levels : goal.invariant-levels

@@ -1,6 +1,4 @@
-use Rattle.std.proofs.Common.{◌≡◌, ◌+◌, ◌%◌, ◌==◌, ◌∙◌, ℕ, Bool, ap, sym, subst, true}
-use Rattle.qs_levels.proofs.Common.{client_more, client_skipped, eqb_apart, eqb_self, in_byte}
-use Rattle.qs_levels.specs.Shares.{weight}
+use Rattle.qs_levels.proofs.Common.{◌≡◌, ◌+◌, ◌%◌, ◌==◌, ◌∙◌, ℕ, Bool, ap, sym, subst, true, client_more, client_skipped, eqb_apart, eqb_self, in_byte, weight}
 use Rattle.qs_levels.proofs.share.mask.Goals as goal
 use Rattle.qs_levels.proofs.share.mask.Goals.{then-from-weight, else-from-weight}
 

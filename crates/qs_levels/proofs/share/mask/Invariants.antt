@@ -1,6 +1,4 @@
-use Rattle.std.proofs.Common.{◌≡◌, ◌+◌, ◌%◌, ◌==◌, ◌&&◌, ℕ, nat_lt}
-use Rattle.qs_standings.specs.going.Going.{in_byte}
-use Rattle.qs_levels.specs.Shares.{weight}
+use Rattle.qs_levels.proofs.Common.{◌≡◌, ◌+◌, ◌%◌, ◌==◌, ◌&&◌, ℕ, nat_lt, in_byte, weight}
 use Rattle.qs_levels.proofs.share.mask.Given as goal
 
 abbrev pub invariant-loop-client : goal.invariant-loop-client

@@ -1,6 +1,4 @@
-use Rattle.std.proofs.Common.{◌≡◌, ◌<◌, ◌+◌, ◌%◌, ◌==◌, ℕ, length, slice_index_or}
-use Rattle.qs_levels.proofs.Common.{in_byte, most_clients}
-use Rattle.qs_levels.specs.Shares.{weight}
+use Rattle.qs_levels.proofs.Common.{◌≡◌, ◌<◌, ◌+◌, ◌%◌, ◌==◌, ℕ, length, slice_index_or, in_byte, most_clients, weight}
 use Rattle.qs_levels.proofs.share.masks.Given as goal
 
 abbrev pub invariant-loop-from : goal.invariant-loop-from

@@ -1,7 +1,4 @@
-use Rattle.std.proofs.Common.{◌≡◌, ◌≤◌, ◌*◌}
-use Rattle.qs_standings.specs.going.Going.{begun_counts}
-use Rattle.qs_levels.specs.meaning.Weights.{weighted}
-use Rattle.qs_levels.specs.Shares.{weight}
+use Rattle.qs_levels.proofs.Common.{◌≡◌, ◌≤◌, ◌*◌, begun_counts, weighted, weight}
 use Rattle.qs_levels.proofs.share.share_of.Given as goal
 
 abbrev pub invariant-loop-client : goal.invariant-loop-client

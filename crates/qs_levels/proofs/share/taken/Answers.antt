@@ -1,8 +1,4 @@
-use Rattle.std.proofs.Common.{◌<◌, ◌%◌, arith, bit_and, slice_index_or, subst, sym}
-use Rattle.qs_levels.proofs.Common.{configuration_in, zip_at}
-use Rattle.qs_levels.specs.Founds.{no_standing}
-use Rattle.qs_levels.specs.Shares.{AreTaken, IsGoing, mark_of}
-use Rattle.qs_levels.specs.declared.level.Going.{Going}
+use Rattle.qs_levels.proofs.Common.{◌<◌, ◌%◌, arith, bit_and, slice_index_or, subst, sym, configuration_in, zip_at, no_standing, AreTaken, IsGoing, mark_of, Going}
 use Rattle.qs_levels.proofs.Masks.{are_taken}
 use Rattle.qs_levels.proofs.share.taken.Goals as goal
 use Rattle.qs_levels.proofs.share.taken.Goals.{After-going-going}
@@ -15,15 +11,7 @@ going_there c =
     (zip_at (IsGoing c.args.program.now c.args.share.count) c.args.level.now.standings c.args.level.now.going c.args.place no_standing none c.requires.going c.requires.within)
 
 pub bounds-masks-from : goal.bounds-masks-from
-bounds-masks-from c =
-    let going = going_there (goal.at.bounds-masks-from c).After-going-going in
-    let share = going.share in
-    let mark = mark_of c.args.program.now (configuration_in (slice_index_or c.args.level.now.standings c.args.place no_standing)).begun in
-    let some = c.requires.some in
-    let under : mark % c.args.share.count < c.args.share.count = omega (arith, some) in
-    let long = c.requires.masks.long in
-    let same = c.from.ensures in
-    omega (arith, share, under, long, same)
+bounds-masks-from c = let going = going_there (goal.at.bounds-masks-from c).After-going-going in omega (arith, going.share, c.requires.masks.long, c.from.ensures)
 
 pub returns : goal.returns
 returns c = record {

@@ -1,6 +1,4 @@
-use borrow.Author.Rules.{rules}
-use denote.Param.Send.{sendable}
-use Rattle.qs_levels.proofs.Common.{GivesFor, IfOk-at_ok}
+use Rattle.qs_levels.proofs.Common.{rules, sendable, GivesFor, IfOk-at_ok}
 use Rattle.qs_levels.proofs.Jobs.{accepts_parts, given_parts}
 use Rattle.qs_levels.proofs.threads.+jobs.Goals as goal
 

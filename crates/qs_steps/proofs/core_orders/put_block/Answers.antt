@@ -1,14 +1,7 @@
-use Rattle.std.proofs.Common.{◌≡◌, ◌<◌, ◌∙◌, Bool, ap, arith, length, sym, subst, false, true}
-use Rattle.qs_program.specs.audit.Program.{ProgramShape}
-use Rattle.qs_client.specs.audit.ClientModel.{has_ended, is_between}
-use Rattle.qs_core_laws.proofs.Names.{no_block_beyond}
-use Rattle.qs_core_laws.proofs.orders.BlocksPlayed.{turn_named}
-use Rattle.qs_core_laws.specs.orders.CoreQuiet.{turn_of}
-use Rattle.qs_played.specs.audit.Schedule.{all_named}
+use Rattle.std.proofs.Common.{◌≡◌, ◌<◌, ◌∙◌, ap, arith, length, sym, subst, false, true}
+use Rattle.qs_steps.proofs.Names.{ProgramShape, all_named, core_of, core_view, has_ended, is_between, no_block_beyond, one_on, stage_is, stands_first, stands_on, turn_named}
+use Rattle.qs_steps.proofs.Names.{turns_fit}
 use Rattle.qs_core.specs.CoreOrders.{blocks_begun}
-use Rattle.qs_core.specs.state.CoreState.{core_of}
-use Rattle.qs_core.proofs.CoreBlocks.{one_on, stage_is, stands_first, stands_on, turns_fit}
-use Rattle.qs_steps.specs.Telling.{core_view}
 use Rattle.qs_steps.proofs.OrdersTold.{fit_of_reached, gone_none, gone_on, same_program, turn_goes}
 use Rattle.qs_steps.proofs.core_orders.put_block.Goals as goal
 

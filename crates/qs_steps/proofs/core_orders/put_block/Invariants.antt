@@ -1,6 +1,4 @@
-use Rattle.qs_core.proofs.CoreBlocks.{StandsIn}
-use Rattle.qs_steps.specs.Orders.{HasGoneOn}
-use Rattle.qs_steps.specs.Telling.{core_view}
+use Rattle.qs_steps.proofs.Names.{HasGoneOn, StandsIn, core_view}
 use Rattle.qs_steps.proofs.core_orders.put_block.Given as goal
 
 abbrev pub invariant-loop-turn : goal.invariant-loop-turn

@@ -1,11 +1,6 @@
-use Rattle.std.proofs.Common.{◌≡◌, ◌∙◌, ◌∷◌, ◌+◌, [], ap, cond, drop, get_or, subst, sym}
-use Rattle.qs_played.proofs.Lists.{from_here}
-use Rattle.qs_played.proofs.Names.{drop_all}
-use Rattle.qs_serial.specs.audit.NamedOrders.{order_of}
+use Rattle.std.proofs.Common.{◌∙◌, ◌∷◌, ◌+◌, [], ap, drop, get_or, subst, sym}
+use Rattle.qs_steps.proofs.Names.{ArePlayed, CoreState, all_played, core_of, core_view, drop_all, from_here, next_left, one_more, order_of, own_order, played_first}
 use Rattle.qs_core_laws.proofs.Names.{core_played, IsPlayedInOrderOn}
-use Rattle.qs_core.specs.state.CoreState.{CoreState, core_of}
-use Rattle.qs_core.proofs.CoreBlocks.{ArePlayed, all_played, next_left, one_more, own_order, played_first}
-use Rattle.qs_steps.specs.Telling.{core_view}
 use Rattle.qs_steps.proofs.OrdersTold.{core_order_told, gone_join, gone_none}
 use Rattle.qs_steps.proofs.core_orders.tell_order.Goals as goal
 use Rattle.qs_steps.proofs.core_orders.tell_order.Goals.{After-into_told, In-loop-client}

@@ -1,7 +1,5 @@
 use Rattle.std.proofs.Common.{drop}
-use Rattle.qs_core.proofs.CoreBlocks.{ArePlayed}
-use Rattle.qs_steps.specs.Orders.{HasGoneOn}
-use Rattle.qs_steps.specs.Telling.{core_view}
+use Rattle.qs_steps.proofs.Names.{ArePlayed, HasGoneOn, core_view}
 use Rattle.qs_steps.proofs.core_orders.tell_order.Given as goal
 
 abbrev pub invariant-loop-client : goal.invariant-loop-client

@@ -1,9 +1,6 @@
 use Rattle.std.proofs.Common.{◌++◌, ap, codes, length, ◌∙◌}
-use Rattle.qs_core.specs.state.CoreState.{CoreState, codes_of, core_of}
-use Rattle.qs_steps.specs.CoreQueues.{client_of, handler_in}
-use Rattle.qs_steps.specs.Forms.{numbered, only_json}
-use Rattle.qs_steps.proofs.Queues.{joined}
-use Rattle.qs_steps.proofs.TellingRuns.{on_ok}
+use Rattle.qs_steps.proofs.Names.{CoreState, client_of, codes_of, core_of, handler_in, numbered, only_json}
+use Rattle.qs_steps.proofs.Queues.{joined, on_ok}
 use Rattle.qs_steps.proofs.core_queues.put_all_queues.Goals as goal
 
 pub put_clients-requires : goal.put_clients-requires

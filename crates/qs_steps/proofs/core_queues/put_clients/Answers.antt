@@ -1,8 +1,5 @@
 use Rattle.std.proofs.Common.{◌≡◌, ◌<◌, ◌++◌, ap, arith, length, subst, sym, ◌∙◌}
-use Rattle.qs_program.specs.audit.Program.{ProgramShape}
-use Rattle.qs_core.specs.state.CoreState.{codes_of, core_of}
-use Rattle.qs_steps.specs.CoreQueues.{client_of}
-use Rattle.qs_steps.specs.Forms.{numbered}
+use Rattle.qs_steps.proofs.Names.{ProgramShape, client_of, codes_of, core_of, numbered}
 use Rattle.qs_steps.proofs.Queues.{numbered_more}
 use Rattle.qs_steps.proofs.core_queues.put_clients.Goals as goal
 

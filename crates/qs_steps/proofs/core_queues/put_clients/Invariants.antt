@@ -1,8 +1,6 @@
 -- The clients before this one are there.
 use Rattle.std.proofs.Common.{◌≡◌, ◌++◌}
-use Rattle.qs_core.specs.state.CoreState.{codes_of, core_of}
-use Rattle.qs_steps.specs.CoreQueues.{client_of}
-use Rattle.qs_steps.specs.Forms.{numbered}
+use Rattle.qs_steps.proofs.Names.{client_of, codes_of, core_of, numbered}
 use Rattle.qs_steps.proofs.core_queues.put_clients.Given as goal
 
 abbrev pub invariant-loop-client : goal.invariant-loop-client

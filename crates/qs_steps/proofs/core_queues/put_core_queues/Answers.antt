@@ -1,10 +1,6 @@
 use Rattle.std.proofs.Common.{ap, sym, ◌∙◌}
-use Rattle.qs_core_laws.specs.audit.CoreSchedule.{is_finished}
-use Rattle.qs_core.specs.state.CoreState.{codes_of, core_of}
-use Rattle.qs_steps.specs.CoreQueues.{client_of, handler_in}
-use Rattle.qs_steps.specs.Queues.{is_silent, queues_by}
-use Rattle.qs_steps.proofs.Queues.{text_if_silent, text_if_told}
-use Rattle.qs_steps.proofs.TellingRuns.{on_ok}
+use Rattle.qs_steps.proofs.Names.{client_of, codes_of, core_of, handler_in, is_finished, is_silent, queues_by}
+use Rattle.qs_steps.proofs.Queues.{on_ok, text_if_silent, text_if_told}
 use Rattle.qs_steps.proofs.core_queues.put_core_queues.Goals as goal
 
 pub returns-then-says_nothing-clause-ok : goal.returns-then-says_nothing-clause-ok

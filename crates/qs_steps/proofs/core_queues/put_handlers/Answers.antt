@@ -1,7 +1,5 @@
 use Rattle.std.proofs.Common.{◌≡◌, ◌++◌, ap, arith, length, ◌∙◌}
-use Rattle.qs_core.specs.state.CoreState.{CoreState, core_of}
-use Rattle.qs_steps.specs.CoreQueues.{handler_in}
-use Rattle.qs_steps.specs.Forms.{numbered}
+use Rattle.qs_steps.proofs.Names.{CoreState, core_of, handler_in, numbered}
 use Rattle.qs_steps.proofs.Queues.{numbered_more}
 use Rattle.qs_steps.proofs.core_queues.put_handlers.Goals as goal
 

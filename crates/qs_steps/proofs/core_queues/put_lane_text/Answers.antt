@@ -1,11 +1,8 @@
 use Rattle.std.proofs.Common.{◌++◌, ap, append-nil, codes, length, nat_eq, sym, ◌∙◌}
-use Rattle.qs_program.specs.audit.Program.{client_at}
-use Rattle.qs_core.specs.state.CoreState.{core_of}
-use Rattle.qs_steps.specs.CoreQueues.{parcels_in}
+use Rattle.qs_steps.proofs.Names.{client_at, core_of, parcels_in}
 use Rattle.qs_steps.specs.declared.wanted.Form.TheVariants as form
 use Rattle.qs_steps.proofs.CoreQueuesText.{no_lane, some_lane}
-use Rattle.qs_steps.proofs.Queues.{joined}
-use Rattle.qs_steps.proofs.TellingRuns.{on_ok}
+use Rattle.qs_steps.proofs.Queues.{joined, on_ok}
 use Rattle.qs_steps.proofs.core_queues.put_lane_text.Goals as goal
 
 pub returns-then-is_empty-clause-ok : goal.returns-then-is_empty-clause-ok

@@ -1,8 +1,5 @@
 use Rattle.std.proofs.Common.{◌≡◌, ◌<◌, ◌++◌, ap, arith, length, subst, sym, ◌∙◌}
-use Rattle.qs_program.specs.audit.Program.{ProgramShape}
-use Rattle.qs_core.specs.state.CoreState.{CoreState, core_of}
-use Rattle.qs_steps.specs.CoreQueues.{lane_in}
-use Rattle.qs_steps.specs.Forms.{numbered}
+use Rattle.qs_steps.proofs.Names.{CoreState, ProgramShape, core_of, lane_in, numbered}
 use Rattle.qs_steps.proofs.Queues.{numbered_more}
 use Rattle.qs_steps.proofs.core_queues.put_lanes.Goals as goal
 

@@ -1,8 +1,6 @@
 -- The lanes of the clients before this one are there, and the machine is as it was.
 use Rattle.std.proofs.Common.{◌≡◌, ◌++◌}
-use Rattle.qs_core.specs.state.CoreState.{core_of}
-use Rattle.qs_steps.specs.CoreQueues.{lane_in}
-use Rattle.qs_steps.specs.Forms.{numbered}
+use Rattle.qs_steps.proofs.Names.{core_of, lane_in, numbered}
 use Rattle.qs_steps.proofs.core_queues.put_lanes.Given as goal
 
 abbrev pub invariant-loop-client : goal.invariant-loop-client

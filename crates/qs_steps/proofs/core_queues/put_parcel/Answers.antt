@@ -1,8 +1,7 @@
 use Rattle.std.proofs.Common.{◌++◌, ap, arith, get_or, length, sym, ◌∙◌}
-use Rattle.qs_core.specs.state.CoreState.{core_of}
-use Rattle.qs_steps.specs.CoreQueues.{parcel_in}
+use Rattle.qs_steps.proofs.Names.{core_of, parcel_in}
 use Rattle.qs_steps.proofs.CoreQueuesText.{chunk_is, parcel_is}
-use Rattle.qs_steps.proofs.TellingRuns.{on_ok}
+use Rattle.qs_steps.proofs.Queues.{on_ok}
 use Rattle.qs_steps.proofs.core_queues.put_parcel.Goals as goal
 
 pub parcel-requires : goal.parcel-requires

@@ -1,8 +1,5 @@
 use Rattle.std.proofs.Common.{◌<◌, ◌≤◌, ◌++◌, ap, arith, get_or, length, subst, sym, ◌∙◌}
-use Rattle.std.proofs.lemmas.List.{take_all}
-use Rattle.qs_chunk.specs.declared.parcel.Parcel.TheVariants.{End}
-use Rattle.qs_core.specs.state.CoreState.{CoreState, core_of}
-use Rattle.qs_steps.specs.CoreQueues.{gap_in, parcel_in, parcels_in}
+use Rattle.qs_steps.proofs.Names.{CoreState, End, core_of, gap_in, parcel_in, parcels_in, take_all}
 use Rattle.qs_steps.proofs.CoreQueuesText.{parcels_more}
 use Rattle.qs_steps.proofs.Queues.{joined}
 use Rattle.qs_steps.proofs.core_queues.put_parcels.Goals as goal

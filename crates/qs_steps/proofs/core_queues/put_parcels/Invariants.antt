@@ -1,7 +1,6 @@
 -- The parcels before this place are there, and the machine is as it was.
 use Rattle.std.proofs.Common.{◌≡◌, ◌++◌, take}
-use Rattle.qs_core.specs.state.CoreState.{core_of}
-use Rattle.qs_steps.specs.CoreQueues.{parcels_in}
+use Rattle.qs_steps.proofs.Names.{core_of, parcels_in}
 use Rattle.qs_steps.proofs.core_queues.put_parcels.Given as goal
 
 abbrev pub invariant-loop-place : goal.invariant-loop-place

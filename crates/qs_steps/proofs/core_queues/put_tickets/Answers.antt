@@ -1,16 +1,11 @@
 use Rattle.std.proofs.Common.{◌≤◌, ◌++◌, ap, arith, length, ◌∙◌}
-use Rattle.std.proofs.lemmas.List.{take_all}
-use Rattle.qs_steps.specs.CoreQueues.{waiting_in}
-use Rattle.qs_steps.specs.Forms.{listed}
+use Rattle.qs_steps.proofs.Names.{listed, take_all, waiting_in}
 use Rattle.qs_steps.proofs.Queues.{joined, listed_more}
 use Rattle.qs_steps.proofs.core_queues.put_tickets.Goals as goal
 
 pub loop-place-preserved : goal.loop-place-preserved
 loop-place-preserved c =
-    let p = c.args.program.now in
-    let tickets = c.args.tickets.now in
-    let i = c.loop-place.place in
-    listed_more c.args.form (waiting_in c.args.form p) tickets c.args.out.now.items _ _ i _ c.loop-place-test.true c.loop-place.invariant
+    listed_more c.args.form (waiting_in c.args.form c.args.program.now) c.args.tickets.now c.args.out.now.items _ _ c.loop-place.place _ c.loop-place-test.true c.loop-place.invariant
     (joined _ _ _ _ _ c.in_ok-put_comma.ensures.ok c.in_ok-put_waiting.ensures.ok)
 
 pub returns : goal.returns

@@ -1,7 +1,6 @@
 -- The tickets before this place are there.
 use Rattle.std.proofs.Common.{◌≡◌, ◌++◌, take}
-use Rattle.qs_steps.specs.CoreQueues.{waiting_in}
-use Rattle.qs_steps.specs.Forms.{listed}
+use Rattle.qs_steps.proofs.Names.{listed, waiting_in}
 use Rattle.qs_steps.proofs.core_queues.put_tickets.Given as goal
 
 abbrev pub invariant-loop-place : goal.invariant-loop-place

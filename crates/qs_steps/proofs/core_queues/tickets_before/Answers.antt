@@ -1,8 +1,6 @@
 use Rattle.std.proofs.Common.{◌≡◌, ◌++◌, ap, append_assoc, ◌∙◌}
-use Rattle.qs_handler.specs.Handler.{serving}
-use Rattle.qs_core_laws.specs.CoreSchedule.{before_it}
+use Rattle.qs_steps.proofs.Names.{before_it, core_of, serving}
 use Rattle.qs_core.specs.parts.CoreHandlers.{handler_with_act}
-use Rattle.qs_core.specs.state.CoreState.{core_of}
 use Rattle.qs_steps.proofs.Queues.{one_of}
 use Rattle.qs_steps.proofs.core_queues.tickets_before.Goals as goal
 

@@ -1,10 +1,7 @@
 use Rattle.std.proofs.Common.{[], ap, cond, subst, sym, ◌∙◌}
-use Rattle.qs_played.specs.audit.Schedule.{schedule}
-use Rattle.qs_core_laws.specs.audit.CoreSchedule.{core_played}
-use Rattle.qs_core.specs.state.CoreState.{CoreState, IsPlayedOn, codes_of, core_of}
+use Rattle.qs_steps.proofs.Names.{CoreState, IsPlayedOn, codes_of, core_of, core_played, queues_in, schedule}
 use Rattle.qs_core.proofs.CoreCounted.{schedule_counted}
 use Rattle.qs_core.proofs.CorePlaying.{schedule_isolated}
-use Rattle.qs_steps.specs.CoreQueues.{queues_in}
 use Rattle.qs_steps.proofs.CoreQueuesText.{told_in}
 use Rattle.qs_steps.proofs.CoreTelling.{core_steps_on, scheduled_on}
 use Rattle.qs_steps.proofs.core_telling.tell.Goals as goal

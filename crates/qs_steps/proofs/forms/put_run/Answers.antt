@@ -1,11 +1,8 @@
 use Rattle.std.proofs.Common.{◌++◌, ap, codes, ◌∙◌}
 use Rattle.qs_objects.specs.audit.Operations.{word}
-use Rattle.qs_program.specs.audit.Program.{object_at}
-use Rattle.qs_json.specs.audit.Pieces.{field, first_field, quoted}
-use Rattle.qs_json.specs.audit.RunJson.{fate_json, reply_json}
+use Rattle.qs_steps.proofs.Names.{fate_json, field, first_field, object_at, quoted, reply_json}
 use Rattle.qs_text.specs.audit.Words.{args_text}
-use Rattle.qs_steps.proofs.Queues.{joined}
-use Rattle.qs_steps.proofs.TellingRuns.{on_ok}
+use Rattle.qs_steps.proofs.Queues.{joined, on_ok}
 use Rattle.qs_steps.proofs.forms.put_run.Goals as goal
 
 pub returns : goal.returns

@@ -1,7 +1,6 @@
 -- The names before this one are there, each after what stands between two.
 use Rattle.std.proofs.Common.{◌≡◌, ◌++◌, flat_map, take}
-use Rattle.qs_program.specs.audit.Program.{object_at}
-use Rattle.qs_steps.specs.Forms.{between, name_in}
+use Rattle.qs_steps.proofs.Names.{between, name_in, object_at}
 use Rattle.qs_steps.proofs.lines.put_other_names.Given as goal
 
 abbrev pub invariant-loop-object : goal.invariant-loop-object

@@ -1,11 +1,8 @@
 use Rattle.std.proofs.Common.{◌++◌, ap, codes, sym, ◌∙◌, None}
-use Rattle.qs_json.specs.audit.Pieces.{field}
-use Rattle.qs_steps.specs.Forms.{does_json, ticket_field}
+use Rattle.qs_steps.proofs.Names.{does_json, effect_json, field, ticket_field}
 use Rattle.qs_steps.specs.Marks.{marked}
-use Rattle.qs_steps.specs.PlainSteps.{effect_json}
 use Rattle.qs_steps.specs.declared.wanted.Form.TheVariants as form
-use Rattle.qs_steps.proofs.Queues.{joined}
-use Rattle.qs_steps.proofs.TellingRuns.{on_ok}
+use Rattle.qs_steps.proofs.Queues.{joined, on_ok}
 use Rattle.qs_steps.proofs.plain_lines.put_effect_json.Goals as goal
 
 pub returns-in_ok-put_does_ticket-in-Runs : goal.returns-in_ok-put_does_ticket-in-Runs

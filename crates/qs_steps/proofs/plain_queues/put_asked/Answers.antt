@@ -2,8 +2,7 @@ use Rattle.std.proofs.Common.{◌++◌, codes}
 use Rattle.qs_json.specs.audit.Pieces.{first_field, quoted}
 use Rattle.qs_steps.specs.Forms.{request_in}
 use Rattle.qs_steps.specs.declared.wanted.Form.TheVariants as form
-use Rattle.qs_steps.proofs.Queues.{joined}
-use Rattle.qs_steps.proofs.TellingRuns.{on_ok}
+use Rattle.qs_steps.proofs.Queues.{joined, on_ok}
 use Rattle.qs_steps.proofs.plain_queues.put_asked.Goals as goal
 
 pub returns : goal.returns

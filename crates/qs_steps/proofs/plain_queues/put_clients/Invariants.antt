@@ -1,7 +1,6 @@
 -- The clients before this one are there.
 use Rattle.std.proofs.Common.{◌≡◌, ◌++◌}
-use Rattle.qs_plain.specs.Rules.{plain_of}
-use Rattle.qs_steps.specs.Forms.{numbered}
+use Rattle.qs_steps.proofs.Names.{numbered, plain_of}
 use Rattle.qs_steps.specs.PlainQueues.{client_of}
 use Rattle.qs_steps.proofs.plain_queues.put_clients.Given as goal
 

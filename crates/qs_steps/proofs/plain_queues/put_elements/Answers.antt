@@ -1,8 +1,7 @@
 use Rattle.qs_steps.specs.PlainQueues.{item_in}
 use Rattle.qs_steps.specs.declared.wanted.Form.TheVariants as form
 use Rattle.std.proofs.Common.{◌++◌, ap, ◌∙◌}
-use Rattle.qs_steps.proofs.Queues.{elements_some}
-use Rattle.qs_steps.proofs.TellingRuns.{on_ok}
+use Rattle.qs_steps.proofs.Queues.{elements_some, on_ok}
 use Rattle.qs_steps.proofs.plain_queues.put_elements.Goals as goal
 
 pub returns-in_ok-put_items-in-len1-up : goal.returns-in_ok-put_items-in-len1-up

@@ -1,7 +1,5 @@
 use Rattle.std.proofs.Common.{◌≡◌, ◌++◌, ap, arith, length, ◌∙◌}
-use Rattle.qs_plain.specs.Rules.{plain_of}
-use Rattle.qs_steps.specs.Forms.{numbered}
-use Rattle.qs_steps.specs.PlainQueues.{handler_of}
+use Rattle.qs_steps.proofs.Names.{handler_of, numbered, plain_of}
 use Rattle.qs_steps.proofs.Queues.{numbered_more}
 use Rattle.qs_steps.proofs.plain_queues.put_handlers.Goals as goal
 

@@ -1,8 +1,6 @@
 -- The handlers before this one are there.
 use Rattle.std.proofs.Common.{◌≡◌, ◌++◌}
-use Rattle.qs_plain.specs.Rules.{plain_of}
-use Rattle.qs_steps.specs.Forms.{numbered}
-use Rattle.qs_steps.specs.PlainQueues.{handler_of}
+use Rattle.qs_steps.proofs.Names.{handler_of, numbered, plain_of}
 use Rattle.qs_steps.proofs.plain_queues.put_handlers.Given as goal
 
 abbrev pub invariant-loop-handler : goal.invariant-loop-handler

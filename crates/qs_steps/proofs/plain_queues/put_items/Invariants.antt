@@ -1,7 +1,6 @@
 -- The items before this one are there, each after a space.
 use Rattle.std.proofs.Common.{◌≡◌, ◌++◌, flat_map, take}
-use Rattle.qs_steps.specs.Forms.{between}
-use Rattle.qs_steps.specs.PlainQueues.{item_in}
+use Rattle.qs_steps.proofs.Names.{between, item_in}
 use Rattle.qs_steps.proofs.plain_queues.put_items.Given as goal
 
 abbrev pub invariant-loop-item : goal.invariant-loop-item

@@ -1,8 +1,6 @@
 -- The private queues before this place are there.
 use Rattle.std.proofs.Common.{◌≡◌, ◌++◌, take}
-use Rattle.qs_plain.specs.client.Queues.{QueueState}
-use Rattle.qs_steps.specs.Forms.{listed}
-use Rattle.qs_steps.specs.PlainQueues.{private_in}
+use Rattle.qs_steps.proofs.Names.{QueueState, listed, private_in}
 use Rattle.qs_steps.proofs.plain_queues.put_privates.Given as goal
 
 abbrev pub invariant-loop-place : goal.invariant-loop-place

@@ -1,8 +1,6 @@
 use Rattle.std.proofs.Common.{ap, ◌∙◌}
 use Rattle.qs_plain_laws.specs.audit.Plain.{client_at}
-use Rattle.qs_plain.specs.Awaiting.{awaited_at}
-use Rattle.qs_plain.specs.Rules.{plain_of}
-use Rattle.qs_steps.specs.Telling.{awaited_in}
+use Rattle.qs_steps.proofs.Names.{awaited_at, awaited_in, plain_of}
 use Rattle.qs_steps.proofs.Queues.{wait_is}
 use Rattle.qs_steps.proofs.plain_queues.wait_of.Goals as goal
 

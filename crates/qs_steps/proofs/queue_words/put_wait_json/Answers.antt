@@ -1,8 +1,6 @@
 use Rattle.std.proofs.Common.{◌++◌, codes, false}
-use Rattle.qs_json.specs.audit.Pieces.{field, quoted, truth}
-use Rattle.qs_steps.specs.Forms.{at_field}
-use Rattle.qs_steps.proofs.Queues.{joined}
-use Rattle.qs_steps.proofs.TellingRuns.{on_ok}
+use Rattle.qs_steps.proofs.Names.{at_field, field, quoted, truth}
+use Rattle.qs_steps.proofs.Queues.{joined, on_ok}
 use Rattle.qs_steps.proofs.queue_words.put_wait_json.Goals as goal
 
 pub returns : goal.returns

@@ -1,15 +1,12 @@
-use Rattle.std.proofs.Common.{◌≡◌, ◌<◌, ◌∙◌, ◌++◌, ◌∷◌, [], ap, false, length, List, map, refl, rules, subst, suc, sym, true}
+use Rattle.std.proofs.Common.{◌≡◌, ◌<◌, ◌∙◌, ◌++◌, ◌∷◌, [], ap, false, map, refl, rules, subst, suc, sym, true}
 use Rattle.qs_played.proofs.Names.{Ticket, all_named, put_here, text_of, IsSound}
-use Rattle.qs_meaning.specs.audit.Solo.{put}
-use Rattle.qs_program.specs.audit.Program.{ProgramShape, blocks_of}
-use Rattle.qs_played.specs.declared.schedule.actor.Actor.{Actor}
+use Rattle.qs_steps.proofs.Names.{blocks_of, put, rules_view}
 use Rattle.qs_played.specs.declared.schedule.actor.Actor.TheVariants as actors
 use Rattle.qs_plain_laws.proofs.Names.{client_at, is_out, plays}
 use Rattle.qs_plain_laws.proofs.orders.BlockAlone.{named_turn}
 use Rattle.qs_plain_laws.proofs.orders.BlockReached.{has_client}
-use Rattle.qs_plain.proofs.Names.{blocks_begun, RulesState, plain_of}
+use Rattle.qs_plain.proofs.Names.{blocks_begun, plain_of}
 use Rattle.qs_plain.proofs.Blocks.{fewer_left, stands_first, stands_on}
-use Rattle.qs_steps.specs.Telling.{rules_view}
 use Rattle.qs_steps.proofs.OrdersTold.{gone_none, gone_on, rules_turned}
 use Rattle.qs_steps.proofs.rules_orders.put_block.Goals as goal
 use Rattle.qs_steps.proofs.rules_orders.put_block.Goals.{After-as_slice, In_ok-put, In_ok-put-2}

@@ -1,10 +1,7 @@
 use Rattle.std.proofs.Common.{◌≡◌, ◌++◌, ◌∷◌, [], suc}
-use Rattle.qs_meaning.specs.audit.Solo.{put}
+use Rattle.qs_steps.proofs.Names.{HasGoneOn, Stands, put, rules_view}
 use Rattle.qs_plain_laws.proofs.orders.AloneSteps.{left_of}
 use Rattle.qs_plain.proofs.Names.{blocks_begun, plain_of}
-use Rattle.qs_plain.proofs.Blocks.{Stands}
-use Rattle.qs_steps.specs.Orders.{HasGoneOn}
-use Rattle.qs_steps.specs.Telling.{rules_view}
 use Rattle.qs_steps.proofs.rules_orders.put_block.Given as goal
 
 abbrev pub invariant-turns : goal.invariant-turns

@@ -1,11 +1,8 @@
-use Rattle.std.proofs.Common.{◌≡◌, ◌∙◌, ◌∷◌, ◌+◌, [], ap, drop, get_or, subst, sym}
-use Rattle.qs_played.proofs.Lists.{from_here}
-use Rattle.qs_played.proofs.Names.{drop_all}
-use Rattle.qs_serial.specs.audit.NamedOrders.{order_of}
+use Rattle.std.proofs.Common.{◌∙◌, ◌∷◌, ◌+◌, [], ap, drop, get_or, subst, sym}
+use Rattle.qs_steps.proofs.Names.{drop_all, from_here, order_of, rules_view}
 use Rattle.qs_plain_laws.proofs.Names.{played_of, IsPlayedInOrder}
 use Rattle.qs_plain.proofs.Names.{RulesState, plain_of}
 use Rattle.qs_plain.proofs.Blocks.{ArePlayed, all_played, next_left, one_more, played_first}
-use Rattle.qs_steps.specs.Telling.{rules_view}
 use Rattle.qs_steps.proofs.OrdersTold.{gone_join, gone_none, rules_order_told}
 use Rattle.qs_steps.proofs.rules_orders.tell_order.Goals as goal
 use Rattle.qs_steps.proofs.rules_orders.tell_order.Goals.{After-into_told, In-loop-client}

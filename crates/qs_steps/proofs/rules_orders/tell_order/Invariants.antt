@@ -1,7 +1,6 @@
 use Rattle.std.proofs.Common.{drop}
 use Rattle.qs_plain.proofs.Blocks.{ArePlayed}
-use Rattle.qs_steps.specs.Orders.{HasGoneOn}
-use Rattle.qs_steps.specs.Telling.{rules_view}
+use Rattle.qs_steps.proofs.Names.{HasGoneOn, rules_view}
 use Rattle.qs_steps.proofs.rules_orders.tell_order.Given as goal
 
 abbrev pub invariant-loop-client : goal.invariant-loop-client

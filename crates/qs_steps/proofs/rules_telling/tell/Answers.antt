@@ -1,13 +1,8 @@
 use Rattle.std.proofs.Common.{◌≡◌, [], ap, cond, subst, sym, ◌∙◌}
-use Rattle.qs_program.specs.audit.Program.{ProgramShape}
+use Rattle.qs_steps.proofs.Names.{Plain, Played, ProgramShape, RulesState, commands_in_queue, plain_of, played_of}
 use Rattle.qs_played.specs.Isolation.{IsIsolated}
-use Rattle.qs_played.specs.audit.Played.{Played}
-use Rattle.qs_plain_laws.specs.audit.Plain.{Plain}
-use Rattle.qs_plain_laws.specs.PlainIsolation.{commands_in_queue}
-use Rattle.qs_plain_laws.specs.audit.PlainSchedule.{played_of}
 use Rattle.qs_plain_laws.specs.PlainSchedule.{scheduled}
 use Rattle.qs_plain_laws.specs.PlainSyncSums.{AreQueriesCounted}
-use Rattle.qs_plain.specs.Rules.{RulesState, plain_of}
 use Rattle.qs_steps.specs.PlainQueues.{plain_queues, queues_in}
 use Rattle.qs_steps.proofs.RulesTelling.{rules_scheduled, rules_steps}
 use Rattle.qs_steps.proofs.rules_telling.tell.Goals as goal

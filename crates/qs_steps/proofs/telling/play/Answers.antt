@@ -1,7 +1,5 @@
 use Rattle.std.proofs.Common.{sym, subst, take}
-use Rattle.std.proofs.lemmas.List.{take_all, take_more}
-use Rattle.qs_played.specs.audit.Schedule.{actors_of, rounds_of}
-use Rattle.qs_steps.specs.Telling.{LeadTo}
+use Rattle.qs_steps.proofs.Names.{LeadTo, actors_of, rounds_of, take_all, take_more}
 use Rattle.qs_steps.proofs.TellingRuns.{more_lead, none_lead, one_lead_more}
 use Rattle.qs_steps.proofs.telling.play.Goals as goal
 

@@ -1,6 +1,5 @@
 use Rattle.std.proofs.Common.{[], ap, cond, subst, sym, ◌∙◌}
-use Rattle.qs_played.specs.audit.Schedule.{schedule}
-use Rattle.qs_steps.specs.Telling.{LeadTo, steps_from}
+use Rattle.qs_steps.proofs.Names.{LeadTo, schedule, steps_from}
 use Rattle.qs_steps.proofs.telling.play_steps.Goals as goal
 
 pub returns-else-tells : goal.returns-else-tells

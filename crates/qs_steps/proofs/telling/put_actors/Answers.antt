@@ -1,6 +1,5 @@
-use Rattle.std.proofs.Common.{◌≡◌, ◌+◌, ap, arith, length, subst, sym, take}
-use Rattle.std.proofs.lemmas.List.{length-take-le, take_more}
-use Rattle.qs_steps.specs.Telling.{AreTold}
+use Rattle.std.proofs.Common.{◌≡◌, ◌+◌, arith, length, subst, sym, take}
+use Rattle.qs_steps.proofs.Names.{AreTold, length-take-le, take_more}
 use Rattle.qs_steps.proofs.TellingRuns.{one_more_told}
 use Rattle.qs_steps.proofs.telling.put_actors.Goals as goal
 

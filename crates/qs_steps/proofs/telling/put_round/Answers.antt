@@ -1,9 +1,6 @@
 use Rattle.std.proofs.Common.{◌≡◌, ◌+◌, ◌++◌, [], false, arith, length, map}
-use Rattle.std.specs.List.{range_with_len}
-use Rattle.std.proofs.lemmas.Bool.{or_parts}
-use Rattle.std.proofs.lemmas.List.{length-append}
+use Rattle.qs_steps.proofs.Names.{length-append, length-map-range_with_len, or_parts, range_with_len}
 use Rattle.qs_played.specs.declared.schedule.actor.Actor.TheVariants as actor
-use Rattle.std.proofs.lemmas.List.FromFn.{length-map-range_with_len}
 use Rattle.qs_steps.proofs.TellingRuns.{row_still, row_told}
 use Rattle.qs_steps.proofs.telling.put_round.Goals as goal
 

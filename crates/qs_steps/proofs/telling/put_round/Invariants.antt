@@ -1,7 +1,6 @@
 use Rattle.std.proofs.Common.{◌≡◌, ◌+◌, ◌++◌, false, length, map}
-use Rattle.std.specs.List.{range_with_len}
+use Rattle.qs_steps.proofs.Names.{AreTold, NoneStep, range_with_len}
 use Rattle.qs_played.specs.declared.schedule.actor.Actor.TheVariants as actor
-use Rattle.qs_steps.specs.Telling.{AreTold, NoneStep}
 use Rattle.qs_steps.proofs.telling.put_round.Given as goal
 
 abbrev pub invariant-loop-client : goal.invariant-loop-client

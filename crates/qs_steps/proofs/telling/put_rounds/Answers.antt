@@ -1,6 +1,5 @@
 use Rattle.std.proofs.Common.{◌≡◌, ◌+◌, ◌-◌, false, ap, add-one, arith, subst, sym}
-use Rattle.qs_played.specs.audit.Schedule.{actors_of, rounds_of}
-use Rattle.qs_steps.specs.Telling.{AreTold}
+use Rattle.qs_steps.proofs.Names.{AreTold, actors_of, rounds_of}
 use Rattle.qs_steps.proofs.TellingRuns.{more_told, number_after, rest_told}
 use Rattle.qs_steps.proofs.telling.put_rounds.Goals as goal
 

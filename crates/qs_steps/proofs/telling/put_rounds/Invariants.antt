@@ -1,6 +1,5 @@
 use Rattle.std.proofs.Common.{◌+◌, false}
-use Rattle.qs_played.specs.audit.Schedule.{actors_of, rounds_of}
-use Rattle.qs_steps.specs.Telling.{AreTold}
+use Rattle.qs_steps.proofs.Names.{AreTold, actors_of, rounds_of}
 use Rattle.qs_steps.proofs.telling.put_rounds.Given as goal
 
 abbrev pub invariant-loop-round : goal.invariant-loop-round

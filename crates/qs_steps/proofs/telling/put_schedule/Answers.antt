@@ -1,4 +1,5 @@
-use Rattle.qs_steps.proofs.TellingRuns.{on_ok, whole_told}
+use Rattle.qs_steps.proofs.Queues.{on_ok}
+use Rattle.qs_steps.proofs.TellingRuns.{whole_told}
 use Rattle.qs_steps.proofs.telling.put_schedule.Goals as goal
 
 pub returns : goal.returns

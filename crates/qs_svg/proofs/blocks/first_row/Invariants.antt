@@ -1,6 +1,5 @@
 -- It is the first row of the objects before this place.
-use Rattle.std.proofs.Common.{◌≡◌, take}
-use Rattle.qs_svg.specs.audit.Places.{first_row}
+use Rattle.qs_svg.proofs.Common.{◌≡◌, take, first_row}
 use Rattle.qs_svg.proofs.blocks.first_row.Given as goal
 
 abbrev pub invariant-loop-object : goal.invariant-loop-object

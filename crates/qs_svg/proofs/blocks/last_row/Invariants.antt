@@ -1,6 +1,5 @@
 -- It is the last row of the objects before this place.
-use Rattle.std.proofs.Common.{◌≡◌, take}
-use Rattle.qs_svg.specs.audit.Places.{last_row}
+use Rattle.qs_svg.proofs.Common.{◌≡◌, take, last_row}
 use Rattle.qs_svg.proofs.blocks.last_row.Given as goal
 
 abbrev pub invariant-loop-object : goal.invariant-loop-object

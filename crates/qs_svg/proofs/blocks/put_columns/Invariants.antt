@@ -1,7 +1,5 @@
 -- The columns before this one are there.
-use Rattle.qs_svg.specs.audit.Shapes.{shapes_up_to}
-use Rattle.qs_svg.specs.Shapes.{Draws}
-use Rattle.qs_svg.specs.audit.Blocks.{column}
+use Rattle.qs_svg.proofs.Common.{shapes_up_to, Draws, column}
 use Rattle.qs_svg.proofs.blocks.put_columns.Given as goal
 
 abbrev pub invariant-loop-column : goal.invariant-loop-column

@@ -1,5 +1,4 @@
-use Rattle.std.proofs.Common.{◌≡◌, ◌<◌, ap, arith, length, nat_lt, true}
-use Rattle.std.proofs.lemmas.Bool.Decides.{nat_tests}
+use Rattle.qs_svg.proofs.Common.{◌≡◌, ◌<◌, ap, arith, length, nat_lt, true, nat_tests}
 use Rattle.qs_svg.proofs.Parts.{last_shape}
 use Rattle.qs_svg.proofs.blocks.put_columns_left.Goals as goal
 

@@ -1,6 +1,5 @@
 -- The lines of the clients before this one are counted.
-use Rattle.std.proofs.Common.{◌≡◌, ◌≤◌}
-use Rattle.qs_svg.specs.audit.RunSvg.{lines_before}
+use Rattle.qs_svg.proofs.Common.{◌≡◌, ◌≤◌, lines_before}
 use Rattle.qs_svg.proofs.ends.all_lines.Given as goal
 
 abbrev pub invariant-loop-client : goal.invariant-loop-client

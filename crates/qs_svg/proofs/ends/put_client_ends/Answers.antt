@@ -1,6 +1,4 @@
-use Rattle.std.proofs.Common.{◌≡◌, ◌+◌, ◌*◌, suc, add-one, arith}
-use Rattle.qs_standings.specs.Standings.{configuration_in}
-use Rattle.qs_svg.specs.audit.RunSvg.{client_end, lines_before}
+use Rattle.qs_svg.proofs.Common.{◌≡◌, ◌+◌, ◌*◌, suc, add-one, arith, configuration_in, client_end, lines_before}
 use Rattle.qs_svg.proofs.FewLines.{few_lines}
 use Rattle.qs_svg.proofs.Parts.{one_place_more}
 use Rattle.qs_svg.proofs.ends.put_client_ends.Goals as goal

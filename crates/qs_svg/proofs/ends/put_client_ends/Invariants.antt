@@ -1,9 +1,5 @@
 -- The clients before this one are there, and the next line is this one.
-use Rattle.std.proofs.Common.{◌≡◌, ◌≤◌, ◌+◌, ◌*◌}
-use Rattle.qs_svg.specs.audit.RunSvg.{client_end, lines_before}
-use Rattle.qs_svg.specs.audit.Shapes.{shapes_up_to}
-use Rattle.qs_svg.specs.Shapes.{Draws}
-use Rattle.qs_standings.specs.Standings.{configuration_in}
+use Rattle.qs_svg.proofs.Common.{◌≡◌, ◌≤◌, ◌+◌, ◌*◌, client_end, lines_before, shapes_up_to, Draws, configuration_in}
 use Rattle.qs_svg.proofs.ends.put_client_ends.Given as goal
 
 abbrev pub invariant-loop-client : goal.invariant-loop-client

@@ -1,7 +1,4 @@
-use Rattle.std.proofs.Common.{◌∙◌, List, add-one, ap₂, max}
-use Rattle.qs_objects.specs.declared.held.Entry.{Entry}
-use Rattle.qs_objects.specs.declared.held.Ticket.{Ticket}
-use Rattle.qs_svg.specs.audit.Stretches.{entries_for}
+use Rattle.qs_svg.proofs.Common.{◌∙◌, List, add-one, ap₂, max, Entry, Ticket, entries_for}
 use Rattle.qs_svg.proofs.facts.longest_at.Goals as goal
 
 pub loop-column-preserved : goal.loop-column-preserved

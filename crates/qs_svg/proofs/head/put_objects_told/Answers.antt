@@ -1,5 +1,4 @@
-use Rattle.qs_svg.specs.audit.Words.{object_told}
-use Rattle.qs_text.proofs.Parts.{one_text_more}
+use Rattle.qs_svg.proofs.Common.{object_told, one_text_more}
 use Rattle.qs_svg.proofs.head.put_objects_told.Goals as goal
 
 pub loop-object-preserved : goal.loop-object-preserved

@@ -1,7 +1,5 @@
 -- The objects before this one are there.
-use Rattle.qs_text.specs.audit.Texts.{texts_up_to}
-use Rattle.qs_text.specs.Texts.{Puts}
-use Rattle.qs_svg.specs.audit.Words.{object_told}
+use Rattle.qs_svg.proofs.Common.{texts_up_to, Puts, object_told}
 use Rattle.qs_svg.proofs.head.put_objects_told.Given as goal
 
 abbrev pub invariant-loop-object : goal.invariant-loop-object

@@ -1,7 +1,5 @@
 -- The names before this place are there.
-use Rattle.std.proofs.Common.{take}
-use Rattle.qs_text.specs.Texts.{Puts}
-use Rattle.qs_svg.specs.audit.Words.{reserved_words}
+use Rattle.qs_svg.proofs.Common.{take, Puts, reserved_words}
 use Rattle.qs_svg.proofs.head.put_reserved.Given as goal
 
 abbrev pub invariant-loop-place : goal.invariant-loop-place

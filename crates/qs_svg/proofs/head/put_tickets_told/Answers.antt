@@ -1,5 +1,4 @@
-use Rattle.qs_svg.specs.audit.Words.{ticket_told}
-use Rattle.qs_text.proofs.Parts.{one_text_more}
+use Rattle.qs_svg.proofs.Common.{ticket_told, one_text_more}
 use Rattle.qs_svg.proofs.head.put_tickets_told.Goals as goal
 
 pub loop-place-preserved : goal.loop-place-preserved

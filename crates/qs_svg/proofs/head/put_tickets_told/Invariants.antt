@@ -1,7 +1,5 @@
 -- The tickets before this place are there.
-use Rattle.qs_text.specs.audit.Texts.{texts_up_to}
-use Rattle.qs_text.specs.Texts.{Puts}
-use Rattle.qs_svg.specs.audit.Words.{ticket_told}
+use Rattle.qs_svg.proofs.Common.{texts_up_to, Puts, ticket_told}
 use Rattle.qs_svg.proofs.head.put_tickets_told.Given as goal
 
 abbrev pub invariant-loop-place : goal.invariant-loop-place

@@ -1,7 +1,5 @@
 -- The clients before this one are there.
-use Rattle.qs_svg.specs.audit.Shapes.{shapes_up_to}
-use Rattle.qs_svg.specs.Shapes.{Draws}
-use Rattle.qs_svg.specs.audit.Legend.{client_shapes}
+use Rattle.qs_svg.proofs.Common.{shapes_up_to, Draws, client_shapes}
 use Rattle.qs_svg.proofs.legend.put_clients.Given as goal
 
 abbrev pub invariant-loop-client : goal.invariant-loop-client

@@ -1,6 +1,4 @@
-use Rattle.std.proofs.Common.{◌≡◌, ◌/◌, arith, nat_lt, true}
-use Rattle.std.proofs.lemmas.Bool.Decides.{nat_tests}
-use Rattle.qs_text.proofs.Parts.{last}
+use Rattle.qs_svg.proofs.Common.{◌≡◌, ◌/◌, arith, nat_lt, true, nat_tests, last}
 use Rattle.qs_svg.proofs.pieces.put_squeezed.Goals as goal
 
 pub returns-in_ok-put_count : goal.returns-in_ok-put_count

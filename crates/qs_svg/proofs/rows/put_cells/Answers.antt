@@ -1,29 +1,10 @@
-use Rattle.std.proofs.Common.{◌≡◌, ◌≤◌, ◌+◌, ◌∙◌, List, add-one, ap, ap₂, arith, length}
-use Rattle.qs_objects.specs.audit.Act.{State}
-use Rattle.qs_objects.specs.audit.Journals.{replay, without_tickets}
-use Rattle.qs_objects.specs.declared.held.Entry.{Entry}
-use Rattle.qs_svg.specs.audit.Stretches.{journal_of, state_at, stretch, stretch_fates, ticket_at}
-use Rattle.qs_svg.specs.audit.Blocks.{whole_cell}
+use Rattle.qs_svg.proofs.Common.{◌≡◌, ◌≤◌, ◌+◌, ◌∙◌, List, add-one, ap, ap₂, arith, length, State, replay, without_tickets, Entry, journal_of, state_at, ticket_at, whole_cell, rules}
 use Rattle.qs_svg.proofs.Parts.{and_then, one_place_more}
 use Rattle.qs_svg.proofs.StretchEnds.{fates_of_length, fates_of_stretch, stretch_ends, stretch_of}
 use Rattle.qs_svg.proofs.rows.put_cells.Goals as goal
 
-pub overflow_sub-journal : goal.overflow_sub-journal
-overflow_sub-journal c =
-    omega (arith, c.loop-column.invariant.0, ap length (c.journal_of-journal.ensures.journal ∙ ap (journal_of c.args.played.now) c.from.ensures))
-
 pub slice_bounds-put_cell-end-in-loop-column : goal.slice_bounds-put_cell-end-in-loop-column
-slice_bounds-put_cell-end-in-loop-column c =
-    let run = c.args.played.now in
-    let journal = c.journal_of-journal.ensures.journal ∙ ap (journal_of run) c.from.ensures in
-    omega (
-      arith,
-      ap length c.requires.fates,
-      fates_of_length c.args.program.now run c.args.row,
-      ap length journal,
-      c.loop-column.invariant.0,
-      c.min.ensures,
-    )
+slice_bounds-put_cell-end-in-loop-column c = search (rules, fates_of_length)
 
 pub loop-column-preserved : goal.loop-column-preserved
 loop-column-preserved c =

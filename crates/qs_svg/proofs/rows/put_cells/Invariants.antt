@@ -1,9 +1,5 @@
 -- The stretches before this column are there, and the next one begins here, within the journal, in the object's state.
-use Rattle.std.proofs.Common.{◌≡◌, ◌≤◌, length}
-use Rattle.qs_svg.specs.audit.Shapes.{shapes_up_to}
-use Rattle.qs_svg.specs.Shapes.{Draws}
-use Rattle.qs_svg.specs.audit.Stretches.{journal_of, state_at, stretch_start}
-use Rattle.qs_svg.specs.audit.Blocks.{whole_cell}
+use Rattle.qs_svg.proofs.Common.{◌≡◌, ◌≤◌, length, shapes_up_to, Draws, journal_of, state_at, stretch_start, whole_cell}
 use Rattle.qs_svg.proofs.rows.put_cells.Given as goal
 
 abbrev pub invariant-loop-column : goal.invariant-loop-column

@@ -1,22 +1,13 @@
-use Rattle.std.proofs.Common.{◌∙◌, [], List, ap, ap₂, arith, get_or, length}
-use Rattle.qs_svg.specs.audit.Places.{bands_of}
-use Rattle.qs_text.specs.declared.fates.fate.Fate.{Fate}
+use Rattle.qs_svg.proofs.Common.{◌∙◌, ap, bands_of, rules}
 use Rattle.qs_svg.proofs.FatesOfRows.{row_of_fates, rows_of_fates}
 use Rattle.qs_svg.proofs.Parts.{and_then, last_shapes}
 use Rattle.qs_svg.proofs.rows.put_row.Goals as goal
 
 pub of-requires : goal.of-requires
-of-requires c =
-    let rows = rows_of_fates c.args.program.now c.args.played.now in
-    record { object = omega (arith, c.requires.row, c.from-object.ensures, ap length c.requires.fates, rows) }
+of-requires c = search (rules, rows_of_fates)
 
 pub put_cells-requires : goal.put_cells-requires
-put_cells-requires c =
-    let own = ap₂ (λ (all : List (List Fate)) n. get_or all n []) c.requires.fates c.from-object.ensures in
-    record {
-      row = c.requires.row;
-      fates = c.of.ensures.fates ∙ own ∙ row_of_fates c.args.program.now c.args.played.now c.args.row c.requires.row;
-    }
+put_cells-requires c = search (rules, row_of_fates)
 
 pub returns : goal.returns
 returns c =

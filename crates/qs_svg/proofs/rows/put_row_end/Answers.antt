@@ -1,5 +1,4 @@
-use Rattle.std.proofs.Common.{◌∙◌}
-use Rattle.qs_text.proofs.Parts.{all_that_is}
+use Rattle.qs_svg.proofs.Common.{◌∙◌, all_that_is}
 use Rattle.qs_svg.proofs.Parts.{drawn, last_shapes}
 use Rattle.qs_svg.proofs.rows.put_row_end.Goals as goal
 

@@ -1,5 +1,4 @@
-use Rattle.std.proofs.Common.{◌≡◌, arith}
-use Rattle.qs_svg.specs.audit.Blocks.{row_name}
+use Rattle.qs_svg.proofs.Common.{◌≡◌, arith, row_name}
 use Rattle.qs_svg.proofs.Parts.{one_place_more}
 use Rattle.qs_svg.proofs.rows.put_row_names.Goals as goal
 

@@ -1,7 +1,5 @@
 -- The names in the bands before this one are there.
-use Rattle.qs_svg.specs.audit.Shapes.{shapes_up_to}
-use Rattle.qs_svg.specs.Shapes.{Draws}
-use Rattle.qs_svg.specs.audit.Blocks.{row_name}
+use Rattle.qs_svg.proofs.Common.{shapes_up_to, Draws, row_name}
 use Rattle.qs_svg.proofs.rows.put_row_names.Given as goal
 
 abbrev pub invariant-loop-band : goal.invariant-loop-band

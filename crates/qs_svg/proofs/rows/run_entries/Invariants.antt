@@ -1,6 +1,5 @@
 -- What is left to run leads from where the object is to where it will be.
-use Rattle.std.proofs.Common.{◌≡◌, drop}
-use Rattle.qs_objects.specs.audit.Journals.{replay, without_tickets}
+use Rattle.qs_svg.proofs.Common.{◌≡◌, drop, replay, without_tickets}
 use Rattle.qs_svg.proofs.rows.run_entries.Given as goal
 
 abbrev pub invariant-loop-entry : goal.invariant-loop-entry

@@ -1,6 +1,4 @@
-use Rattle.std.proofs.Common.{◌∙◌, ap}
-use Rattle.qs_svg.specs.audit.Places.{band_y, bands_of}
-use Rattle.qs_text.proofs.Parts.{last, then}
+use Rattle.qs_svg.proofs.Common.{◌∙◌, ap, band_y, bands_of, last, then}
 use Rattle.qs_svg.proofs.Parts.{and_then, as_text}
 use Rattle.qs_svg.proofs.run.put_picture.Goals as goal
 

@@ -1,9 +1,4 @@
-use Rattle.std.proofs.Common.{ℕ, ◌∙◌, ap, arith, get_or, length, ◌<◌}
-use Rattle.std.proofs.lemmas.List.{get_or_default}
-use Rattle.qs_text.specs.declared.fates.fate.Fate.TheVariants.{Done}
-use Rattle.qs_svg.specs.audit.Stretches.{no_entry}
-use Rattle.qs_svg.specs.audit.Places.{symbol_x, symbol_y}
-use Rattle.qs_svg.specs.audit.Blocks.{request_shapes}
+use Rattle.qs_svg.proofs.Common.{ℕ, ◌∙◌, ap, arith, get_or, length, ◌<◌, get_or_default, Done, no_entry, symbol_x, symbol_y, request_shapes}
 use Rattle.qs_svg.proofs.Parts.{one_place_more}
 use Rattle.qs_svg.proofs.stretches.put_symbols.Goals as goal
 

@@ -1,11 +1,5 @@
 -- The requests before this one are there.
-use Rattle.std.proofs.Common.{get_or}
-use Rattle.qs_text.specs.declared.fates.fate.Fate.TheVariants.{Done}
-use Rattle.qs_svg.specs.audit.Shapes.{shapes_up_to}
-use Rattle.qs_svg.specs.Shapes.{Draws}
-use Rattle.qs_svg.specs.audit.Stretches.{no_entry}
-use Rattle.qs_svg.specs.audit.Places.{symbol_x, symbol_y}
-use Rattle.qs_svg.specs.audit.Blocks.{request_shapes}
+use Rattle.qs_svg.proofs.Common.{get_or, Done, shapes_up_to, Draws, no_entry, symbol_x, symbol_y, request_shapes}
 use Rattle.qs_svg.proofs.stretches.put_symbols.Given as goal
 
 abbrev pub invariant-loop-number : goal.invariant-loop-number

@@ -1,6 +1,4 @@
-use Rattle.qs_text.specs.Texts.{Puts}
-use Rattle.qs_text.specs.audit.Words.{request_text}
-use Rattle.qs_text.proofs.Parts.{last, then}
+use Rattle.qs_svg.proofs.Common.{Puts, request_text, last, then}
 use Rattle.qs_svg.proofs.words.put_entry.Goals as goal
 
 pub returns : goal.returns

@@ -1,7 +1,4 @@
-use Rattle.std.proofs.Common.{◌≡◌, arith}
-use Rattle.qs_objects.specs.audit.Objects.{values_of}
-use Rattle.qs_text.specs.audit.Texts.{spaced_value}
-use Rattle.qs_text.proofs.Parts.{one_text_more}
+use Rattle.qs_svg.proofs.Common.{◌≡◌, arith, values_of, spaced_value, one_text_more}
 use Rattle.qs_svg.proofs.words.put_first_values.Goals as goal
 
 pub loop-place-preserved : goal.loop-place-preserved

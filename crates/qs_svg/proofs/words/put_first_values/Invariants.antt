@@ -1,7 +1,5 @@
 -- The values before this place are there.
-use Rattle.qs_objects.specs.audit.Objects.{values_of}
-use Rattle.qs_text.specs.audit.Texts.{texts_up_to, spaced_value}
-use Rattle.qs_text.specs.Texts.{Puts}
+use Rattle.qs_svg.proofs.Common.{values_of, texts_up_to, spaced_value, Puts}
 use Rattle.qs_svg.proofs.words.put_first_values.Given as goal
 
 abbrev pub invariant-loop-place : goal.invariant-loop-place

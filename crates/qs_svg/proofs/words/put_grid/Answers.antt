@@ -1,6 +1,4 @@
-use Rattle.std.proofs.Common.{w64}
-use Rattle.std.proofs.lemmas.Int.{to_z-of_z}
-use Rattle.qs_text.proofs.Parts.{last}
+use Rattle.qs_svg.proofs.Common.{w64, to_z-of_z, last}
 use Rattle.qs_svg.proofs.words.put_grid.Goals as goal
 
 pub returns : goal.returns

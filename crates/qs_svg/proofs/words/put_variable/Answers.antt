@@ -1,6 +1,4 @@
-use Rattle.std.proofs.Common.{rules, w64}
-use Rattle.std.proofs.lemmas.Int.{to_z-of_z}
-use Rattle.qs_text.proofs.Parts.{last, then}
+use Rattle.qs_svg.proofs.Common.{rules, w64, to_z-of_z, last, then}
 use Rattle.qs_svg.proofs.words.put_variable.Goals as goal
 
 pub returns : goal.returns

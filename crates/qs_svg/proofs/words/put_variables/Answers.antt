@@ -1,6 +1,4 @@
-use Rattle.std.proofs.Common.{◌≡◌, arith, length}
-use Rattle.qs_svg.specs.audit.Words.{variable_words}
-use Rattle.qs_text.proofs.Parts.{one_text_more}
+use Rattle.qs_svg.proofs.Common.{◌≡◌, arith, length, variable_words, one_text_more}
 use Rattle.qs_svg.proofs.words.put_variables.Goals as goal
 
 pub loop-number-preserved : goal.loop-number-preserved

@@ -1,7 +1,5 @@
 -- The variables before this one are there.
-use Rattle.qs_text.specs.audit.Texts.{texts_up_to}
-use Rattle.qs_text.specs.Texts.{Puts}
-use Rattle.qs_svg.specs.audit.Words.{variable_words}
+use Rattle.qs_svg.proofs.Common.{texts_up_to, Puts, variable_words}
 use Rattle.qs_svg.proofs.words.put_variables.Given as goal
 
 abbrev pub invariant-loop-number : goal.invariant-loop-number

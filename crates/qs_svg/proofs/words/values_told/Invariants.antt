@@ -1,7 +1,6 @@
 -- The values before this place are told, and as many of the others as have room in what is left.
 use Rattle.std.specs.Prelude.{◌≡◌, ◌+◌, drop}
-use Rattle.qs_objects.specs.audit.Objects.{values_of}
-use Rattle.qs_svg.specs.audit.Words.{told_in, value_room}
+use Rattle.qs_svg.proofs.Common.{values_of, told_in, value_room}
 use Rattle.qs_svg.proofs.words.values_told.Given as goal
 
 abbrev pub invariant-loop-place : goal.invariant-loop-place

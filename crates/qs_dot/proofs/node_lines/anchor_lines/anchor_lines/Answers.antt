@@ -1,15 +1,9 @@
-use Rattle.std.proofs.Common.{arith}
-use Rattle.qs_dot.specs.node_lines.AnchorLines.{anchor_lines}
+use Rattle.qs_dot.proofs.Common.{arith, anchor_lines, rules}
 use Rattle.qs_dot.proofs.node_lines.TextLines.{ended, passed}
 use Rattle.qs_dot.proofs.node_lines.anchor_lines.anchor_lines.Goals as goal
 
 pub loop-end-preserved-then-text-end-ne10 : goal.loop-end-preserved-then-text-end-ne10
-loop-end-preserved-then-text-end-ne10 c = record {
-  lines = passed c.args.text.now c.loop-end.number c.loop-end.start c.loop-end.end c.loop-end.lines.items (anchor_lines c.args.text.now)
-      c.loop-end.invariant.begun c.loop-end-test.true c.loop-end.invariant.lines c.if-text-end-ne10.true;
-  begun = omega (arith, c.loop-end.invariant.begun);
-  few = omega (arith, c.loop-end.invariant.few);
-}
+loop-end-preserved-then-text-end-ne10 c = search (rules, passed)
 
 pub loop-end-preserved : goal.loop-end-preserved
 loop-end-preserved c = record {

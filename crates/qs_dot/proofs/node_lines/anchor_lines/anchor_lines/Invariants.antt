@@ -1,6 +1,5 @@
 -- The lines of the lines' ends so far are there; the line that has begun and what is left have the others.
-use Rattle.std.proofs.Common.{◌≡◌, ◌≤◌, ◌-◌, ◌+◌, ◌++◌, drop, take}
-use Rattle.qs_dot.specs.node_lines.AnchorLines.{anchor_lines}
+use Rattle.qs_dot.proofs.Common.{◌≡◌, ◌≤◌, ◌-◌, ◌+◌, ◌++◌, drop, take, anchor_lines}
 use Rattle.qs_dot.proofs.node_lines.TextLines.{lines_from}
 use Rattle.qs_dot.proofs.node_lines.anchor_lines.anchor_lines.Given as goal
 

@@ -1,7 +1,5 @@
 -- The anchors so far and those of what is left are the line's; and there are no more of them than bytes.
-use Rattle.std.proofs.Common.{◌≡◌, ◌+◌, ◌≤◌, length}
-use Rattle.qs_script.specs.audit.tokens.Tokens.{tokens_of}
-use Rattle.qs_dot.specs.node_lines.AnchorLines.{line_anchors}
+use Rattle.qs_dot.proofs.Common.{◌≡◌, ◌+◌, ◌≤◌, length, tokens_of, line_anchors}
 use Rattle.qs_dot.proofs.node_lines.TextLines.{counted}
 use Rattle.qs_dot.proofs.node_lines.anchor_lines.anchors_of.Given as goal
 

@@ -1,6 +1,5 @@
 -- With the lines of the blocks that are left, all lines are there.
-use Rattle.std.proofs.Common.{◌≡◌, ◌++◌, drop}
-use Rattle.qs_dot.specs.node_lines.NodeLines.{blocks_nodes}
+use Rattle.qs_dot.proofs.Common.{◌≡◌, ◌++◌, drop, blocks_nodes}
 use Rattle.qs_dot.proofs.node_lines.lines.lines_of_blocks.Given as goal
 
 abbrev pub invariant-loop-block : goal.invariant-loop-block

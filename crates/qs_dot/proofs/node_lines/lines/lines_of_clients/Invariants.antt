@@ -1,6 +1,5 @@
 -- With the lines of the clients that are left, all lines are there.
-use Rattle.std.proofs.Common.{◌≡◌, ◌++◌, drop}
-use Rattle.qs_dot.specs.node_lines.NodeLines.{clients_nodes, script_nodes, template_nodes}
+use Rattle.qs_dot.proofs.Common.{◌≡◌, ◌++◌, drop, clients_nodes, script_nodes, template_nodes}
 use Rattle.qs_dot.proofs.node_lines.lines.lines_of_clients.Given as goal
 
 abbrev pub invariant-loop-item : goal.invariant-loop-item

@@ -1,6 +1,5 @@
 -- The template is the first of its name among the items that are left.
-use Rattle.std.proofs.Common.{◌≡◌, drop}
-use Rattle.qs_dot.specs.node_lines.NodeLines.{template_nodes}
+use Rattle.qs_dot.proofs.Common.{◌≡◌, drop, template_nodes}
 use Rattle.qs_dot.proofs.node_lines.lines.lines_of_template.Given as goal
 
 abbrev pub invariant-loop-item : goal.invariant-loop-item

@@ -1,15 +1,10 @@
-use Rattle.std.proofs.Common.{◌≡◌, ◌∙◌, ap, arith, drop, sym}
-use Rattle.std.proofs.lemmas.Result.{IfOk-weaker}
-use Rattle.qs_script.specs.tree.Views.{single, size_of}
-use Rattle.qs_script.proofs.tree.Sizes.{size_at}
-use Rattle.qs_dot.specs.node_lines.NodeLines.{anchor_count}
+use Rattle.qs_dot.proofs.Common.{◌≡◌, ◌∙◌, ap, drop, sym, IfOk-weaker, single, size_at, anchor_count, rules}
 use Rattle.qs_dot.proofs.node_lines.Counts.{after_more, after_repeat}
 use Rattle.qs_dot.proofs.node_lines.StatementNodes.{nodes_more}
 use Rattle.qs_dot.proofs.node_lines.nodes.+put.Goals as goal
 
 pub put_body-put_stmt-requires : goal.put_body-put_stmt-requires
-put_body-put_stmt-requires t c =
-    (omega (arith, size_at c.as_slice-stmt-items.result.now c.loop-stmt.stmt-index c.stmt-item.result c.loop-stmt-test.true, ap size_of c.as_slice-stmt-items.ensures.same, ap (λ s. size_of (single s)) c.stmt-item.is, c.decreases), tt)
+put_body-put_stmt-requires t c = search (rules, size_at)
 
 pub put_body-loop-stmt-preserved : goal.put_body-loop-stmt-preserved
 put_body-loop-stmt-preserved t c =

@@ -1,13 +1,9 @@
-use Rattle.std.proofs.Common.{◌∙◌, ap, arith, drop, sym}
-use Rattle.qs_script.specs.tree.Views.{single, size_of}
-use Rattle.qs_script.proofs.tree.Sizes.{size_at}
-use Rattle.qs_dot.specs.node_lines.NodeLines.{anchor_count}
+use Rattle.qs_dot.proofs.Common.{◌∙◌, ap, drop, sym, single, size_at, anchor_count, rules}
 use Rattle.qs_dot.proofs.node_lines.Counts.{after_repeat}
 use Rattle.qs_dot.proofs.node_lines.skipping.+skipped.Goals as goal
 
 pub skip_body-skip_stmt-rest-requires : goal.skip_body-skip_stmt-rest-requires
-skip_body-skip_stmt-rest-requires t c =
-    (omega (arith, size_at c.as_slice-stmt-items.result.now c.loop-stmt.stmt-index c.stmt-item.result c.loop-stmt-test.true, ap size_of c.as_slice-stmt-items.ensures.same, ap (λ s. size_of (single s)) c.stmt-item.is, c.decreases), tt)
+skip_body-skip_stmt-rest-requires t c = search (rules, size_at)
 
 pub skip_stmt-returns-in-Repeat : goal.skip_stmt-returns-in-Repeat
 skip_stmt-returns-in-Repeat t c = record {

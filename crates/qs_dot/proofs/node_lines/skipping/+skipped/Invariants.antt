@@ -1,8 +1,6 @@
 -- After the statements that are left comes what comes after all of them. A statement is at most as large as the list
 -- that it stands in.
-use Rattle.std.proofs.Common.{◌≡◌, ◌+◌, ◌*◌, drop}
-use Rattle.qs_script.specs.tree.Views.{single, size_of, stmts_of}
-use Rattle.qs_dot.specs.node_lines.NodeLines.{anchor_count}
+use Rattle.qs_dot.proofs.Common.{◌≡◌, ◌+◌, ◌*◌, drop, single, size_of, stmts_of, anchor_count}
 use Rattle.qs_dot.proofs.node_lines.skipping.+skipped.Given as goal
 
 abbrev pub decreases-skip_body : goal.decreases-skip_body

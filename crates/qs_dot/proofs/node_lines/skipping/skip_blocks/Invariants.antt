@@ -1,6 +1,5 @@
 -- After the blocks that are left comes what comes after all of them.
-use Rattle.std.proofs.Common.{◌≡◌, drop, length}
-use Rattle.qs_check.specs.anchors.Anchors.{blocks_anchors}
+use Rattle.qs_dot.proofs.Common.{◌≡◌, drop, length, blocks_anchors}
 use Rattle.qs_dot.proofs.node_lines.skipping.skip_blocks.Given as goal
 
 abbrev pub invariant-loop-block : goal.invariant-loop-block

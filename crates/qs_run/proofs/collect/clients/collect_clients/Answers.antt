@@ -24,7 +24,6 @@ collect_client-requires-clause-paired g c =
     let n = c.loop-client.number in
     let client = c.in-Some.client in
     let inv = c.loop-client.invariant in
-    let all = c.args.clients.items in
     let turn = YieldsList-turn (YieldsList-from_vec {s = c.into_iter-client-iterator.result} c.args.clients.items (search rules) (search rules))
     c.loop-client.yielded c.loop-client.client-iterator c.loop-client.yielded_by c.next.result c.next.new.self client c.in-Some.is c.next.ensures.steps in
     let at = slice_get_read c.args.clients.items (length c.args.clients.items) (length c.loop-client.yielded) client refl turn.0 turn.1 in

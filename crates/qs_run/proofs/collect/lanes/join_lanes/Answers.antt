@@ -1,10 +1,9 @@
 -- Each turn of the loop joins the lane to one handler and leaves the later ones as they were, so in the end all lanes
 -- of the client are joined.
 use Rattle.std.proofs.Common.{◌≡◌, ◌≢◌, ◌<◌, None, Some, length, slice_get, ap, ◌∙◌, arith, below_more}
-use Rattle.qs_played.proofs.Names.{get_or-set_other, slice_get_within}
+use Rattle.qs_run.proofs.Names.{AreEndsJoined, HandlerWorker, get_or-set_other, slice_get_within, without_lane_of}
 use Rattle.qs_run.specs.client.ClientThreads as running
 use Rattle.qs_run.specs.handler.HandlerThreads as handling
-use Rattle.qs_run.proofs.Names.{HandlerWorker, AreEndsJoined, without_lane_of}
 use Rattle.qs_run.proofs.LanesTaken.{joined_here, paired_here, taken_here}
 use Rattle.qs_run.proofs.ListPlaces.{front_all, map_front}
 use Rattle.qs_run.proofs.collect.lanes.join_lanes.Goals as goal

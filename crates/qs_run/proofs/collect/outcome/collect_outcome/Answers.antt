@@ -1,9 +1,8 @@
 -- The calls of `collect_outcome` can be made, and what it shows is an outcome: `CollectedOutcome` says so of what the
 -- calls gave back.
-use Rattle.std.proofs.Common.{◌≡◌, length, map, sym, ap, ◌∙◌, subst, arith, rules}
-use Rattle.std.proofs.lemmas.List.{length-map, with_items_is}
+use Rattle.std.proofs.Common.{sym, subst, arith, rules}
+use Rattle.qs_run.proofs.Names.{AreAllPaired, IsOutcome, with_items_is}
 use Rattle.std.specs.Vec.{with_items}
-use Rattle.qs_run.proofs.Names.{IsOutcome, AreAllPaired, without_lanes_below}
 use Rattle.qs_run.proofs.CollectedOutcome.{IsShowable, all_showable}
 use Rattle.qs_run.proofs.CollectedWorkers.{all_paired, few_handlers}
 use Rattle.qs_run.proofs.collect.outcome.collect_outcome.Given.{Over}
@@ -26,11 +25,6 @@ collect_handlers-journals-requires-clause-states_room g c =
     let few = few_handlers g.D.DeskName.program c.args.mode c.args.size c.args.results.handlers.items c.args.results.clients.items c.requires.ran c.requires.sound in
     (c.args.room.empty.3, omega (arith, few, c.args.results.handlers.ok.0, c.args.room.room.3))
 
--- the handlers without their lanes, as a vector again after the clients were collected through a slice of it
-handlers_left : (g : Over) (c : goal.After-into_order g)
-    → (with_items c.args.results.handlers c.collect_clients-rows.new.handlers).items ≡ map (without_lanes_below c.args.results.clients.len) c.as_mut_slice.result.now
-handlers_left g c = search (rules, c, with_items_is)
-
 what_is_shown : (g : Over) (c : goal.After-into_order g)
     → IsShowable g.D.DeskName.program c.args.mode c.args.size c.into_order.result.items c.collect_clients-rows.result.items c.collect_handlers-journals.result.0.items
     c.collect_handlers-journals.result.1.items
@@ -39,7 +33,7 @@ what_is_shown g c =
     c.args.results.desk c.collect_clients-rows.new.desk c.collect_handlers-journals.new.desk c.as_mut_slice.result.now
     (with_items c.args.results.handlers c.collect_clients-rows.new.handlers).items c.args.results.clients.len c.into_order.result.items c.collect_clients-rows.result.items
     c.collect_handlers-journals.result.0.items c.collect_handlers-journals.result.1.items
-    c.as_mut_slice.ensures.value c.collect_clients-rows.ensures.desk c.collect_handlers-journals.ensures.desk (handlers_left g c)
+    c.as_mut_slice.ensures.value c.collect_clients-rows.ensures.desk c.collect_handlers-journals.ensures.desk (search (rules, c, with_items_is))
     c.collect_clients-rows.ensures.booked c.collect_clients-rows.ensures.joined c.collect_handlers-journals.ensures.taken_all
     c.into_order.ensures.order c.into_order.ensures.legal c.collect_clients-rows.ensures.rows
     c.collect_handlers-journals.ensures.journals c.collect_handlers-journals.ensures.states

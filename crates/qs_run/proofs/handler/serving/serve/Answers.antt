@@ -2,7 +2,7 @@ use Rattle.std.proofs.Common.{◌∷◌, [], refl, subst, sym, ap, ◌∙◌}
 use Rattle.qs_run.proofs.Names.{TicketsView, ArePassed}
 use Rattle.qs_handler.specs.audit.Handler.{free}
 use Rattle.qs_run.proofs.handler.Passed.{passed_more}
-use Rattle.qs_run.proofs.handler.ServedTasks.{all_served, begins, is_asked_for, is_empty, kept_by_chunk, kept_by_object, kept_by_parcel, kept_to_end, parcel_stands, reaches_asker, reaches_sender, reaches_spared, took_ticket}
+use Rattle.qs_run.proofs.handler.ServedTasks.{all_served, begins, client_of, is_asked_for, is_empty, kept_by_chunk, kept_by_object, kept_by_parcel, kept_to_end, parcel_stands, reaches, took_ticket}
 use Rattle.qs_run.proofs.handler.serving.serve.Goals as goal
 
 pub loop-init : goal.loop-init
@@ -21,13 +21,11 @@ loop-preserved-in-TakeTicket g c = (
       (subst (λ object. ArePassed (g.G.Passage.moves c.args.gate.now) object c.loop.log (c.take_or_sleep-next.result ∷ []) c.announce.new.log) c.handler-object.ensures.handler c.announce.ensures.passed)),
 )
 
-pub take_parcel-requires-clause-client : goal.take_parcel-requires-clause-client
-take_parcel-requires-clause-client g c =
-    (reaches_sender g.D.DeskName.program c.args.tickets.handler c.args.held c.args.lanes c.loop.mind c.next-in-loop.new.self c.loop.tickets c.loop.lanes c.loop.invariant.0 c.next-in-loop.ensures.rest c.requires.reached c.in-TakeParcel.client (sym c.in-TakeParcel.ensures.act)).0
-
-pub take_parcel-requires-clause-lane : goal.take_parcel-requires-clause-lane
-take_parcel-requires-clause-lane g c =
-    (reaches_sender g.D.DeskName.program c.args.tickets.handler c.args.held c.args.lanes c.loop.mind c.next-in-loop.new.self c.loop.tickets c.loop.lanes c.loop.invariant.0 c.next-in-loop.ensures.rest c.requires.reached c.in-TakeParcel.client (sym c.in-TakeParcel.ensures.act)).1
+pub take_parcel-requires : goal.take_parcel-requires
+take_parcel-requires g c =
+    let to = reaches g.D.DeskName.program c.args.tickets.handler c.args.held c.args.lanes c.loop.mind c.next-in-loop.new.self c.loop.tickets c.loop.lanes c.loop.invariant.0
+    c.next-in-loop.ensures.rest c.requires.reached c.in-TakeParcel.client (ap client_of (sym c.in-TakeParcel.ensures.act)) in
+    record { client = to.0; lane = to.1 }
 
 pub parcel-requires-clause-stands : goal.parcel-requires-clause-stands
 parcel-requires-clause-stands g c =
@@ -40,38 +38,40 @@ loop-preserved-in-TakeParcel g c = (
   c.loop.invariant.1,
 )
 
-pub give-requires-clause-client : goal.give-requires-clause-client
-give-requires-clause-client g c = (reaches_asker g.D.DeskName.program c.args.tickets.handler c.args.held c.args.lanes c.loop.mind c.next-in-loop.new.self c.loop.tickets c.loop.lanes c.loop.invariant.0 c.next-in-loop.ensures.rest c.requires.reached c.in-Give.client c.in-Give.held (sym c.in-Give.ensures.act)).0
-
-pub give-requires-clause-lane : goal.give-requires-clause-lane
-give-requires-clause-lane g c = (reaches_asker g.D.DeskName.program c.args.tickets.handler c.args.held c.args.lanes c.loop.mind c.next-in-loop.new.self c.loop.tickets c.loop.lanes c.loop.invariant.0 c.next-in-loop.ensures.rest c.requires.reached c.in-Give.client c.in-Give.held (sym c.in-Give.ensures.act)).1
-
-pub give-requires-clause-asked : goal.give-requires-clause-asked
-give-requires-clause-asked g c lane is = is_asked_for g.D.DeskName.program c.args.tickets.handler c.args.held c.args.lanes c.loop.mind c.next-in-loop.new.self c.loop.tickets c.loop.lanes c.loop.invariant.0 c.next-in-loop.ensures.rest c.requires.reached c.in-Give.client c.in-Give.held lane (sym c.in-Give.ensures.act) is
+pub give-requires : goal.give-requires
+give-requires g c =
+    let to = reaches g.D.DeskName.program c.args.tickets.handler c.args.held c.args.lanes c.loop.mind c.next-in-loop.new.self c.loop.tickets c.loop.lanes c.loop.invariant.0
+    c.next-in-loop.ensures.rest c.requires.reached c.in-Give.client (ap client_of (sym c.in-Give.ensures.act)) in
+    record {
+      client = to.0;
+      lane = to.1;
+      asked = λ lane is. is_asked_for g.D.DeskName.program c.args.tickets.handler c.args.held c.args.lanes c.loop.mind c.next-in-loop.new.self c.loop.tickets c.loop.lanes c.loop.invariant.0
+          c.next-in-loop.ensures.rest c.requires.reached
+          c.in-Give.client c.in-Give.held lane (sym c.in-Give.ensures.act) is;
+    }
 
 pub loop-preserved-in-Give : goal.loop-preserved-in-Give
 loop-preserved-in-Give g c =
     (kept_by_object g.D.DeskName.program c.args.tickets.handler c.args.held c.args.lanes c.loop.mind c.next-in-loop.new.self c.loop.tickets c.loop.lanes c.loop.invariant.0 c.next-in-loop.ensures.rest c.requires.reached c.in-Give.client c.in-Give.held c.give.new.lanes (sym c.in-Give.ensures.act) c.give.ensures.given, c.loop.invariant.1)
 
-pub spare-requires-clause-client : goal.spare-requires-clause-client
-spare-requires-clause-client g c = (reaches_spared g.D.DeskName.program c.args.tickets.handler c.args.held c.args.lanes c.loop.mind c.next-in-loop.new.self c.loop.tickets c.loop.lanes c.loop.invariant.0 c.next-in-loop.ensures.rest c.requires.reached c.in-Spare.client c.in-Spare.chunk (sym c.in-Spare.ensures.act)).0
-
-pub spare-requires-clause-lane : goal.spare-requires-clause-lane
-spare-requires-clause-lane g c = (reaches_spared g.D.DeskName.program c.args.tickets.handler c.args.held c.args.lanes c.loop.mind c.next-in-loop.new.self c.loop.tickets c.loop.lanes c.loop.invariant.0 c.next-in-loop.ensures.rest c.requires.reached c.in-Spare.client c.in-Spare.chunk (sym c.in-Spare.ensures.act)).1
-
-pub spare-requires-clause-empty : goal.spare-requires-clause-empty
-spare-requires-clause-empty g c lane is = is_empty g.D.DeskName.program c.args.tickets.handler c.args.held c.args.lanes c.loop.mind c.next-in-loop.new.self c.loop.tickets c.loop.lanes c.loop.invariant.0 c.next-in-loop.ensures.rest c.requires.reached c.in-Spare.client c.in-Spare.chunk lane (sym c.in-Spare.ensures.act) is
+pub spare-requires : goal.spare-requires
+spare-requires g c =
+    let to = reaches g.D.DeskName.program c.args.tickets.handler c.args.held c.args.lanes c.loop.mind c.next-in-loop.new.self c.loop.tickets c.loop.lanes c.loop.invariant.0
+    c.next-in-loop.ensures.rest c.requires.reached c.in-Spare.client (ap client_of (sym c.in-Spare.ensures.act)) in
+    record {
+      client = to.0;
+      lane = to.1;
+      empty = λ lane is. is_empty g.D.DeskName.program c.args.tickets.handler c.args.held c.args.lanes c.loop.mind c.next-in-loop.new.self c.loop.tickets c.loop.lanes c.loop.invariant.0
+          c.next-in-loop.ensures.rest c.requires.reached
+          c.in-Spare.client c.in-Spare.chunk lane (sym c.in-Spare.ensures.act) is;
+    }
 
 pub loop-preserved : goal.loop-preserved
 loop-preserved g c =
     (kept_by_chunk g.D.DeskName.program c.args.tickets.handler c.args.held c.args.lanes c.loop.mind c.next-in-loop.new.self c.loop.tickets c.loop.lanes c.loop.invariant.0 c.next-in-loop.ensures.rest c.requires.reached c.in-Spare.client c.in-Spare.chunk c.spare.new.lanes (sym c.in-Spare.ensures.act) c.spare.ensures.spared, c.loop.invariant.1)
 
 pub returns-in-Closed : goal.returns-in-Closed
-returns-in-Closed g c = record {
-  served = kept_to_end g.D.DeskName.program c.args.tickets.handler c.args.held c.args.lanes c.loop.mind c.next-in-loop.new.self c.into_held.result c.loop.tickets c.loop.lanes c.loop.invariant.0 c.next-in-loop.ensures.rest
-      (sym c.in-Closed.ensures.act) c.into_held.ensures.held;
-  given = all_served g.D.DeskName.program c.args.tickets.handler c.args.held c.args.lanes c.into_held.result c.loop.tickets c.loop.lanes
-      (kept_to_end g.D.DeskName.program c.args.tickets.handler c.args.held c.args.lanes c.loop.mind c.next-in-loop.new.self c.into_held.result c.loop.tickets c.loop.lanes c.loop.invariant.0 c.next-in-loop.ensures.rest
-      (sym c.in-Closed.ensures.act) c.into_held.ensures.held);
-  passed = c.loop.invariant.1;
-}
+returns-in-Closed g c =
+    let end = kept_to_end g.D.DeskName.program c.args.tickets.handler c.args.held c.args.lanes c.loop.mind c.next-in-loop.new.self c.into_held.result c.loop.tickets c.loop.lanes c.loop.invariant.0 c.next-in-loop.ensures.rest
+    (sym c.in-Closed.ensures.act) c.into_held.ensures.held in
+    record { served = end; given = all_served g.D.DeskName.program c.args.tickets.handler c.args.held c.args.lanes c.into_held.result c.loop.tickets c.loop.lanes end; passed = c.loop.invariant.1 }

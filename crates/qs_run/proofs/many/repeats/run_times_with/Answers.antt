@@ -1,9 +1,6 @@
 use Rattle.std.proofs.Common.{◌≡◌, ◌<◌, ◌^◌, List, [], add-one, arith, refl, rules, subst, suc, sym}
-use Rattle.qs_played.proofs.Names.{ProgramShape, IsComplete}
+use Rattle.qs_run.proofs.Names.{AreTabled, CountedShape, IsComplete, IsCounted, IsTallyBy, LetRunsStart, ProgramShape, rows_in, worker_count}
 use Rattle.qs_standings.specs.declared.rows.Row.{Row}
-use Rattle.qs_standings.specs.Rows.{rows_in}
-use Rattle.qs_tally.specs.Counting.{AreTabled, IsCounted}
-use Rattle.qs_run.proofs.Names.{worker_count, LetRunsStart, IsTallyBy, CountedShape}
 use Rattle.qs_run.proofs.many.Refusing.{memory_told, run_told}
 use Rattle.qs_run.proofs.many.Tallying.{complete_of, few_times, tally_begun, tally_on}
 use Rattle.qs_run.proofs.many.repeats.run_times_with.Goals as goal

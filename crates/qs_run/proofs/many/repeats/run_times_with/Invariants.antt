@@ -1,5 +1,4 @@
-use Rattle.qs_standings.specs.Rows.{rows_in}
-use Rattle.qs_run.proofs.Names.{AreTabled, worker_count, LetRunsStart, IsTallyBy}
+use Rattle.qs_run.proofs.Names.{AreTabled, IsTallyBy, LetRunsStart, rows_in, worker_count}
 use Rattle.qs_run.proofs.many.repeats.run_times_with.Given as goal
 
 abbrev pub invariant-loop-run : goal.invariant-loop-run

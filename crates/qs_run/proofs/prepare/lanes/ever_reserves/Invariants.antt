@@ -1,7 +1,6 @@
 -- None of the blocks so far reserves the handler.
 use Rattle.std.proofs.Common.{◌≡◌, false, take}
-use Rattle.qs_played.proofs.Names.{list_any, is_in}
-use Rattle.qs_program.specs.audit.Program.{BlockShape, client_at}
+use Rattle.qs_run.proofs.Names.{BlockShape, client_at, is_in, list_any}
 use Rattle.qs_run.proofs.prepare.lanes.ever_reserves.Given as goal
 
 abbrev pub invariant-loop-block : goal.invariant-loop-block

@@ -1,7 +1,6 @@
 -- The workers of the handlers so far are there. What is left of the parts begins with what belongs to the next of them.
 use Rattle.std.proofs.Common.{◌≡◌, ℕ, ◌≤◌, None, drop}
-use Rattle.qs_played.proofs.Names.{slice_index_or, vec_capacity, into_iter_items}
-use Rattle.qs_run.proofs.Names.{IsHandlerOf, IsListOf}
+use Rattle.qs_run.proofs.Names.{IsHandlerOf, IsListOf, into_iter_items, slice_index_or, vec_capacity}
 use Rattle.qs_run.proofs.prepare.workers.add_handlers.Given as goal
 
 abbrev pub invariant-loop-handler : goal.invariant-loop-handler
