@@ -28,7 +28,7 @@ _qs() {
         run) settings="--times --format --warn --help --mode --chunk --counts --refusals" ;;
         syncs) settings="--format --warn --help --order" ;;
         outcomes) settings="--format --warn --help --limit --threads --after --ends --alike" ;;
-        ask) settings="--format --warn --help --always --some --throughout --ever --never --values --limit --after" ;;
+        ask) settings="--format --warn --help --always --some --throughout --ever --never --values --limit --threads --after" ;;
         fronts) settings="--format --warn --help --limit --after --leads" ;;
         estimate) settings="--format --warn --help --after" ;;
     esac

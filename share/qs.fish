@@ -70,6 +70,7 @@ complete -c qs -n '__fish_seen_subcommand_from ask' -l ever -x -d 'Answers wheth
 complete -c qs -n '__fish_seen_subcommand_from ask' -l never -x -d 'Answers whether it holds at none of these'
 complete -c qs -n '__fish_seen_subcommand_from ask' -l values -x -d 'Lists the values that it has at the ends, with an order for each'
 complete -c qs -n '__fish_seen_subcommand_from ask' -l limit -x -d 'How many configurations at most: 1 to 4294967295 [default: 1000000]'
+complete -c qs -n '__fish_seen_subcommand_from ask' -l threads -x -d 'How many questions are answered side by side: 1 to 64 [default: 1]'
 complete -c qs -n '__fish_seen_subcommand_from ask' -l after -x -d 'Whose blocks were run before, as @bob*2,@ann'
 complete -c qs -n '__fish_seen_subcommand_from fronts' -l format -x -a 'text json' -d 'How it is written: text or json [default: text]'
 complete -c qs -n '__fish_seen_subcommand_from fronts' -l warn -d 'Warns of what may be meant otherwise, as a variable that is never set'

@@ -42,7 +42,7 @@ export interface ClientVariables {
 export interface Report {
   order: Ticket[];
   states: State[];
-  /** The variables at the end; null where the run is not finished. */
+  /** The variables so far; null where the program does not tell those of a run that is not finished. */
   clients: ClientVariables[] | null;
   syncs: number;
   finished: boolean;
@@ -122,7 +122,7 @@ function linesOf(text: string): string[] {
 
 /** The objects of an answer, each of which has a line. */
 function objectsIn(text: string): unknown[] {
-  return parsed(`[${linesOf(text).join(",")}]`) as unknown[];
+  return linesOf(text).map(parsed);
 }
 
 /** What was refused, or undefined if the answer is none of a refusal. */
@@ -248,7 +248,8 @@ export function stepsIn(text: string): Step[] {
 
 /** The last of them, of which there has to be one. */
 export function lastStepIn(text: string): Step {
-  return parsed(linesOf(text).at(-2)!) as Step;
+  const report = text.lastIndexOf("\n", text.length - 2);
+  return parsed(text.slice(text.lastIndexOf("\n", report - 1) + 1, report)) as Step;
 }
 
 /** What the steps so far say of who has what. */

@@ -1,21 +1,36 @@
 // The claims of a script, its lines `#? ..`: each is marked yes or no at its line, and its witness can be played.
-import { type Refusal, type Verdict, type Witness, refusalIn, verdictsIn } from "./answers";
+import { type Refusal, type Verdict, type Witness } from "./answers";
 import type { Editor } from "./editor";
-import { byId, counted, element, fill } from "./element";
+import { byId, counted, element, fill, fillInSlices, pause } from "./element";
 import { type Executor, Stopped } from "./executor";
-import { faultIn, toldFault } from "./faults";
+import { type Fault, causeOf, faultIn, helpOf, sentenceOf, withCode } from "./faults";
 import { MANY, isOverLimit, limit, overLimit } from "./search";
+import { orderTo, sentenceOfVerdict, wordOf } from "./verdicts";
 
 const PAUSE = 400;
 const MOST_LISTED = 100;
+/** So many ill-formed claims are looked for, each of which takes one more question. */
+const MOST_REFUSED = 50;
+const HINT = "A line such as `#? always a.balance() >= 0` is a claim. It is answered here.";
 
-function wordOf({ yes }: Verdict): string {
-  return yes ? "yes" : "no";
+/** What is known of a claim: its answer, or why it is refused. */
+type Known = { verdict: Verdict; refusal?: undefined } | { verdict?: undefined; refusal: Refusal };
+
+/** A claim with its line, from 0 on. */
+interface Claim {
+  line: number;
+  text: string;
 }
 
-/** The order that leads to the witness. */
-function orderTo({ order, after }: Witness): string[] {
-  return order ?? after ?? [];
+function claimsIn(script: string): Claim[] {
+  const lines = script.split("\n").map((text, line) => ({ line, text }));
+  return lines.filter(({ text }) => /^[ \t]*#\?/.test(text));
+}
+
+/** A script with only these claims, on their lines. */
+function withClaims(script: string, kept: ReadonlySet<string>): string {
+  const lines = script.split("\n").map((text) => (/^[ \t]*#\?/.test(text) && !kept.has(text) ? "" : text));
+  return lines.join("\n");
 }
 
 function button(text: string, act: () => void): HTMLElement {
@@ -31,6 +46,11 @@ function leaveFocus(event: Event): void {
 export class Claims {
   private readonly told = byId("claims-told");
   private readonly list = byId("claims");
+  /** What is known of the claims of the present code, by their lines' texts. */
+  private known = new Map<string, Known>();
+  /** The claims that are being asked, and the script that they are asked of. */
+  private asked = new Set<string>();
+  private script = "";
   private timer = 0;
   private turn = 0;
 
@@ -40,93 +60,164 @@ export class Claims {
     private readonly playOrder: (order: readonly string[]) => void,
   ) {}
 
-  /** Takes everything off, since the script has changed. */
-  clear(): void {
-    this.turn++;
-    clearTimeout(this.timer);
-    this.executor.stop();
-    this.editor.markClaims(new Map());
-    this.tell();
-    fill(this.list);
+  /** The script has changed: what is known stays where only comments differ, else it is taken off. */
+  change(script: string, isSame: boolean): void {
+    this.script = script;
+    if (!isSame) this.known.clear();
+    const goesOn = isSame && this.pending().every((it) => this.asked.has(it));
+    if (!goesOn || this.asked.size === 0) this.stop();
+    this.draw();
   }
 
-  private tell(...content: (Node | string)[]): void {
-    this.told.classList.remove("refused");
-    fill(this.told, ...content);
+  private stop(): void {
+    this.turn++;
+    clearTimeout(this.timer);
+    this.asked.clear();
+    this.executor.stop();
+  }
+
+  /** The claims that have no answer yet. */
+  private pending(): string[] {
+    return claimsIn(this.script).map(({ text }) => text).filter((it) => !this.known.has(it));
   }
 
   /** Asks the claims of a script that is accepted, once it has been quiet for a moment. */
-  begin(script: string): void {
-    this.clear();
-    const hasClaims = /(?:^|\n)[ \t]*#\?/.test(script);
-    this.editor.makeRoomForClaims(hasClaims);
-    if (hasClaims) this.timer = window.setTimeout(() => void this.ask(script), PAUSE);
+  begin(): void {
+    const pending = this.pending();
+    if (pending.length === 0 || this.asked.size > 0) return;
+    clearTimeout(this.timer);
+    this.timer = window.setTimeout(() => void this.ask(), PAUSE);
   }
 
-  private async ask(script: string): Promise<void> {
-    const { turn } = this;
+  private async ask(): Promise<void> {
+    const turn = ++this.turn;
+    this.asked = new Set(this.pending());
     this.tell("The claims are looked at .. ", button("Stop", () => this.executor.stop()));
     try {
-      const { text } = await this.executor.ask("ask", script, "--limit", limit(), "--format", "json");
-      if (turn === this.turn) this.show(script, text);
+      const why = await this.answer(turn);
+      await pause();
+      if (turn !== this.turn) return;
+      this.asked.clear();
+      this.draw();
+      if (why !== undefined) this.tellUnanswered(why);
     } catch (error) {
-      const why = error instanceof Stopped ? "The search was stopped." : String(error);
-      if (turn === this.turn) this.tellUnanswered(script, why);
+      if (turn !== this.turn) return;
+      this.asked.clear();
+      this.tellUnanswered(error instanceof Stopped ? "The search was stopped." : String(error));
     }
   }
 
-  private tellUnanswered(script: string, why: string): void {
-    this.tell(`${why} The claims have no answer. `, button("Ask again", () => void this.ask(script)));
-  }
-
-  private show(script: string, text: string): void {
-    const refusal = refusalIn(text);
-    if (refusal !== undefined) return this.tellRefused(script, refusal);
-    const verdicts = verdictsIn(text);
-    this.editor.markClaims(new Map(verdicts.map((it) => [it.line! - 1, this.mark(it)])));
+  /** Asks the pending claims, without those that are refused: each refusal names one. It says why the rest has none. */
+  private async answer(turn: number): Promise<string | undefined> {
+    const { script } = this;
     const lines = script.split("\n");
-    const items = verdicts.slice(0, MOST_LISTED).map((it) => this.item(it, lines[it.line! - 1]!));
-    const more = verdicts.length - items.length;
-    fill(this.list, ...items, more > 0 && element("li", { class: "note" }, `and ${more} more`));
-    const yes = verdicts.filter((it) => it.yes).length;
-    this.tell(`${counted(verdicts.length, "claim")}: ${yes} yes, ${verdicts.length - yes} no`);
-    if (verdicts.some(({ configurations }) => configurations > MANY)) this.executor.end();
+    const kept = new Set(this.asked);
+    for (let count = 0; kept.size > 0; count++) {
+      const words = ["--limit", limit(), "--format", "json"];
+      const { value, refusal } = await this.executor.read("verdicts", "ask", withClaims(script, kept), ...words);
+      if (turn !== this.turn) return undefined;
+      if (value !== undefined) {
+        for (const verdict of value) this.known.set(lines[verdict.line! - 1]!, { verdict });
+        if (value.some(({ configurations }) => configurations > MANY)) this.executor.end();
+        return undefined;
+      }
+      if (isOverLimit(refusal)) return overLimit();
+      const text = lines[(refusal.line ?? 0) - 1];
+      if (text === undefined || !kept.delete(text) || count === MOST_REFUSED) return `Refused: ${causeOf(refusal)}.`;
+      this.known.set(text, { refusal });
+    }
+    return undefined;
   }
 
-  private tellRefused(script: string, refusal: Refusal): void {
-    if (isOverLimit(refusal)) return this.tellUnanswered(script, overLimit());
-    const fault = faultIn(script, refusal);
-    this.editor.show(fault);
-    this.tell(...toldFault(fault, (place) => this.editor.goTo(place)));
-    this.told.classList.add("refused");
+  private tell(...content: (Node | string)[]): void {
+    fill(this.told, ...content);
+  }
+
+  private tellUnanswered(why: string): void {
+    const which = this.known.size === 0 ? "The" : "Other";
+    this.tell(`${why} ${which} claims have no answer. `, button("Ask again", () => void this.ask()));
+  }
+
+  /** Puts what is known at the lines of the claims, and into the list. */
+  private draw(): void {
+    const claims = claimsIn(this.script);
+    this.editor.makeRoomForClaims(claims.length > 0);
+    const known = claims.flatMap((it) => {
+      const what = this.known.get(it.text);
+      return what === undefined ? [] : [{ ...it, ...what, what }];
+    });
+    this.editor.markClaims(new Map(known.map((it) => [it.line, it.what])), (it) => this.mark(it));
+    const faults = known.map((it) => it.refusal && this.faultOf(it, it.refusal));
+    this.editor.showClaimFaults(faults.filter((it) => it !== undefined) as Fault[]);
+    const items = known.slice(0, MOST_LISTED).map((it) => () => this.item(it));
+    const rest = known.length - items.length;
+    const more = () => rest > 0 && element("li", { class: "note" }, `and ${rest} more`);
+    const none = () => claims.length === 0 && element("li", { class: "note" }, element("span", {}, ...withCode(HINT)));
+    void fillInSlices(this.list, [...items, more, none]);
+    if (this.asked.size === 0) this.tell(...this.sum(known, claims.length));
+  }
+
+  private sum(known: Known[], all: number): string[] {
+    if (known.length === 0) return [];
+    const yes = known.filter(({ verdict }) => verdict?.yes === true).length;
+    const refused = known.filter(({ refusal }) => refusal !== undefined).length;
+    const open = all - known.length;
+    const parts = [`${yes} yes`, `${known.length - yes - refused} no`];
+    if (refused > 0) parts.push(`${refused} refused`);
+    if (open > 0) parts.push(`${open} not answered yet`);
+    return [`${counted(all, "claim")}: ${parts.join(", ")}`];
+  }
+
+  /** A refusal is of the line where the claim was when it was asked. */
+  private faultOf({ line }: Claim, refusal: Refusal): Fault {
+    return faultIn(this.script, { ...refusal, line: line + 1 });
   }
 
   /** What stands beside the line. Readers of screens and the keys have the list below the editor for it. */
-  private mark(verdict: Verdict): HTMLElement {
-    const { kind, witness } = verdict;
+  private mark({ verdict, refusal }: Known): HTMLElement {
+    if (refusal !== undefined) return element("span", { class: "claim refused", title: sentenceOf(refusal) }, "?");
+    const { witness } = verdict;
     const word = wordOf(verdict);
-    const title = `${kind}: ${word}`;
+    const title = sentenceOfVerdict(verdict);
     if (witness === null) return element("span", { class: `claim ${word}`, title }, word);
-    const attributes = { type: "button", tabindex: -1, class: `claim ${word}`, title: `${title}. Play its witness` };
+    const attributes = { type: "button", tabindex: -1, class: `claim ${word}`, title: `${title} Play the order.` };
     const acts = { onmousedown: leaveFocus, onclick: () => this.playOrder(orderTo(witness)) };
     return element("button", { ...attributes, ...acts }, `${word} \u25b8`);
   }
 
-  private item(verdict: Verdict, text: string): HTMLElement {
-    const { line = 1, witness } = verdict;
-    const word = wordOf(verdict);
-    const goTo = () => this.editor.goTo({ line: line - 1, from: text.indexOf("#?"), to: text.length });
+  private item(it: Claim & Known): HTMLElement {
+    const { line, text, verdict, refusal } = it;
+    const goTo = () => this.editor.goTo({ line, from: text.indexOf("#?"), to: text.length });
+    const word = verdict === undefined ? "refused" : wordOf(verdict);
+    const told = verdict === undefined ? this.toldRefusal(it, refusal) : this.toldVerdict(line, verdict);
     return element(
       "li",
-      { "data-line": line },
-      element("button", { type: "button", class: "link", onclick: goTo }, `Line ${line}`),
+      { "data-line": line + 1 },
+      element("button", { type: "button", class: "link", onclick: goTo }, `Line ${line + 1}`),
       element("b", { class: `claim ${word}` }, word),
       element("code", {}, text.trim().slice(2).trim()),
-      witness !== null && this.witnessButton(line, orderTo(witness)),
+      told,
     );
   }
 
-  private witnessButton(line: number, order: readonly string[]): HTMLElement {
+  private toldVerdict(line: number, verdict: Verdict): HTMLElement {
+    const { witness } = verdict;
+    const play = witness !== null && this.witnessButton(line + 1, witness);
+    return element("span", { class: "says" }, sentenceOfVerdict(verdict), play && " ", play);
+  }
+
+  /** Why a claim is refused, where in its line, and what helps. */
+  private toldRefusal(claim: Claim, refusal: Refusal): HTMLElement {
+    const { place } = this.faultOf(claim, refusal);
+    const { column } = refusal;
+    const goTo = () => place !== undefined && this.editor.goTo(place);
+    const where = `Column ${column}`;
+    const link = column !== undefined && element("button", { type: "button", class: "link", onclick: goTo }, where);
+    return element("span", { class: "says" }, link, link && ": ", ...withCode(causeOf(refusal)), ...helpOf(refusal));
+  }
+
+  private witnessButton(line: number, witness: Witness): HTMLElement {
+    const order = orderTo(witness);
     const label = `Play it: the witness of line ${line}`;
     const attributes = { type: "button", class: "play", "data-order": order.join(","), "aria-label": label };
     return element("button", { ...attributes, onclick: () => this.playOrder(order) }, "Play it");

@@ -1,26 +1,28 @@
 // A state as it is drawn: clients, objects with their handlers and queues, the order of blocks and the steps so far.
 import {
-  type Holdings,
-  type Lane,
   type Parcel,
-  type Reservation,
   type Standing,
   type State,
   type Step,
-  type Ticket,
   eventText,
-  holdingsOf,
   standingWords,
+  stateText,
   stepWords,
 } from "./answers";
 import { counted, element } from "./element";
-import type { Names, Shown } from "./session";
+import type { Entry, LanePart, Names, Part, QueuePart, ReservationPart, TicketPart } from "./readings";
+import type { Machine, Shown } from "./session";
 
-const MOST_DRAWN = 40;
+/** How many variables stand on a line of a card, about, and how many lines it has for them. */
+const VARIABLES_IN_LINE = 4;
+const MOST_LINES = 3;
+/** How many values of a buffer are drawn, the first one first. */
+const MOST_CELLS = 100;
 
 /** What a drawing needs beside the state. */
 export interface Scene {
   names: Names;
+  machine: Machine["word"];
   /** The line on which a block begins, by its ticket. */
   lines: Map<string, number>;
   showLine: (line: number) => void;
@@ -43,17 +45,19 @@ function fact(label: string, className: string, ...content: (Node | string)[]): 
   return element("div", { class: "fact" }, element("dt", {}, label), element("dd", { class: className }, ...content));
 }
 
+/** The variables of a client, on as many lines in each state, so that nothing moves where a value grows. */
 function variablesOf(shown: Shown, client: string): HTMLElement | null {
   const variables = shown.variables.find((it) => it.client === client)?.variables ?? [];
   if (variables.length === 0) return null;
-  const label = shown.report.finished ? "Variables" : "Variables after its done blocks";
+  const label = shown.areOfDoneBlocks ? "Variables after its done blocks" : "Variables";
   const each = variables.map(({ variable, value }) => element("span", { class: "variable" }, `${variable} = ${value}`));
-  return fact(label, "variables", ...each);
+  const lines = Math.min(Math.ceil(variables.length / VARIABLES_IN_LINE), MOST_LINES);
+  return fact(label, `variables lines${lines}`, ...each.flatMap((it) => [it, " "]));
 }
 
-function openBlock(shown: Shown, client: string, scene: Scene): HTMLElement | null {
-  const open = shown.report.order.find((it) => it.client === client && !it.done);
-  if (open === undefined) return null;
+function openBlock({ order }: Shown, client: string, scene: Scene): HTMLElement {
+  const open = order.find((it) => it.client === client && !it.done);
+  if (open === undefined) return fact("In block", "open");
   const ticket = `${client} ${open.block}`;
   const line = scene.lines.get(ticket);
   const go = () => line !== undefined && scene.showLine(line);
@@ -61,31 +65,35 @@ function openBlock(shown: Shown, client: string, scene: Scene): HTMLElement | nu
   return fact("In block", "open", ticket, " ", where || "");
 }
 
-function clientCard(shown: Shown, standing: Standing, holdings: Holdings, scene: Scene): HTMLElement {
+function clientCard(shown: Shown, standing: Standing, scene: Scene): HTMLElement {
   const { client } = standing;
-  const waits = element("span", { class: "standing" }, standingWords(standing));
-  const held = holdings.objects.get(client) ?? [];
-  const chunks = holdings.chunks.get(client) ?? [];
+  const words = standingWords(standing);
+  const waits = element("span", { class: "standing" }, words);
+  const held = list(shown.holdings.objects.get(client) ?? []);
+  const chunks = list(shown.holdings.chunks.get(client) ?? []);
+  const isOptimised = scene.machine === "play";
   return element(
     "article",
     { class: `card client-card k${scene.names.clients.indexOf(client)}`, "data-client": client },
-    element("h4", {}, clientName(scene.names, client), " ", waits),
+    element("h4", { title: `${client} ${words}` }, clientName(scene.names, client), " ", waits),
     element(
       "dl",
       {},
       openBlock(shown, client, scene),
-      list(held) !== "" && fact("Holds", "holds", list(held)),
-      list(chunks) !== "" && fact("Fills a chunk for", "chunks", list(chunks)),
+      isOptimised && fact("Holds", "holds", held),
+      isOptimised && fact("Fills a chunk for", "chunks", chunks),
       variablesOf(shown, client),
     ),
   );
 }
 
 function cells(values: (string | number)[], capacity: number): HTMLElement {
+  const drawn = values.slice(0, MOST_CELLS).map((value) => element("li", {}, value));
+  const others = values.length - drawn.length;
+  const more = others > 0 && element("li", { class: "room" }, `and ${others} more`);
   const rest = capacity - values.length;
-  const drawn = values.map((value) => element("li", {}, value));
   const room = rest > 0 && element("li", { class: "room" }, `room for ${rest}`);
-  return element("ol", { class: "cells" }, ...drawn, room);
+  return element("ol", { class: "cells" }, ...drawn, more, room);
 }
 
 function grid({ rows = 0, columns = 0, values = [] }: State): HTMLElement {
@@ -104,11 +112,18 @@ function stateOf(state: State): HTMLElement {
   return element("span", { class: "balance" }, state.balance);
 }
 
-function queued(names: Names, { client, block, items = [] }: Reservation): HTMLElement {
-  const drawn = items.map(({ item, request }) =>
+/** How many of a list are not drawn, if there are such. */
+function more({ count, items }: Part<unknown>): string | false {
+  return count > items.length && `and ${count - items.length} more`;
+}
+
+function queued(names: Names, { client, block, items }: ReservationPart): HTMLElement {
+  const drawn = items.items.map(({ item, request }) =>
     element("span", { class: request === undefined ? "item end" : "item" }, request ? eventText(request) : item),
   );
-  return element("li", { class: "queued" }, blockName(names, client, block), ...drawn.flatMap((it) => [" ", it]));
+  const rest = more(items);
+  const content = [...drawn.flatMap((it) => [" ", it]), rest && ` ${rest}`];
+  return element("li", { class: "queued" }, blockName(names, client, block), ...content);
 }
 
 function parcelBox({ parcel, requests }: Parcel): HTMLElement {
@@ -117,94 +132,96 @@ function parcelBox({ parcel, requests }: Parcel): HTMLElement {
   return element("span", { class: "parcel work", title: "a chunk" }, ...drawn.flatMap((it) => [it, " "]));
 }
 
-function laneItem(names: Names, { client, parcels }: Lane): HTMLElement {
-  const drawn = parcels.flatMap((it) => [" ", parcelBox(it)]);
-  return element("li", { class: "lane", "data-client": client }, "lane of ", clientName(names, client), ":", ...drawn);
+function laneItem(names: Names, { client, parcels }: LanePart): HTMLElement {
+  const drawn = parcels.items.flatMap((it) => [" ", parcelBox(it)]);
+  const content = ["lane of ", clientName(names, client), ":", ...drawn, more(parcels)];
+  return element("li", { class: "lane", "data-client": client }, ...content);
 }
 
-function journalOf(shown: Shown, object: string, names: Names): HTMLElement {
-  const ran = shown.report.order.flatMap(({ client, block, trace }) =>
-    trace
-      .filter((event) => event.object === object && event.refused !== null)
-      .map((event) => ({ client, block, event })),
-  );
-  const items = ran.slice(-MOST_DRAWN).map(({ client, block, event }) => {
+function queueOf(queue: QueuePart | undefined, names: Names): HTMLElement[] {
+  const reservations = queue?.reservations ?? { count: 0, items: [] };
+  const lanes = queue?.lanes.filter(({ parcels }) => parcels.count > 0) ?? [];
+  const head = reservations.count === 0 ? "No block waits here." : "Its queue, the first one first:";
+  const rest = more(reservations);
+  const items = reservations.items.map((it) => queued(names, it));
+  const rows = [...items, rest && element("li", {}, rest), ...lanes.map((it) => laneItem(names, it))];
+  return [element("p", { class: "note" }, head), element("ol", { class: "queue", "aria-label": "Queue" }, ...rows)];
+}
+
+/** The last of what an object has run: its place shows the end of the list. */
+function journalOf(journal: Part<Entry>, object: string, names: Names): HTMLElement[] {
+  const { count, items } = journal;
+  const drawn = items.map(({ client, block, event }) => {
     const code = element("code", {}, eventText(event).slice(object.length + 1));
     return element("li", {}, blockName(names, client, block), " ", code);
   });
-  const head = `Journal: ${ran.length} run`;
-  const earlier = ran.length > items.length && element("p", { class: "note" }, `The last ${items.length}:`);
-  const content = items.length > 0 && element("ol", { class: "journal" }, ...items);
-  const open = ran.length > 0 && ran.length <= 6;
-  return element("details", { open }, element("summary", {}, head), earlier, content);
+  const head = `Journal: ${count} run${count > items.length ? `, the last ${items.length}` : ""}`;
+  const list = element("ol", { class: "journal", start: count - items.length + 1 }, ...drawn);
+  const scroll = element("div", { class: "to-end", role: "group", "aria-label": "Journal" }, list);
+  return [element("p", { class: "note" }, head), scroll];
 }
 
-function objectCard(shown: Shown, state: State, holdings: Holdings, { names }: Scene): HTMLElement {
-  const queue = shown.queues.find(({ object }) => object === state.object);
-  const doing = holdings.handlers.get(state.object);
+function objectCard(shown: Shown, state: State, { names, machine }: Scene): HTMLElement {
+  const { object } = state;
+  const doing = shown.holdings.handlers.get(object);
   const kind = `${state.kind}${state.capacity === undefined ? "" : ` of ${state.capacity}`}`;
-  const tickets = queue?.reservations.map((it) => queued(names, it)) ?? [];
-  const lanes = queue?.lanes?.filter(({ parcels }) => parcels.length > 0) ?? [];
   return element(
     "article",
-    { class: "card object-card", "data-object": state.object },
-    element("h4", {}, element("span", { class: "name" }, state.object), " ", element("span", { class: "kind" }, kind)),
-    element("div", { class: "value" }, stateOf(state)),
+    { class: "card object-card", "data-object": object },
+    element("h4", {}, element("span", { class: "name" }, object), " ", element("span", { class: "kind" }, kind)),
+    element("div", { class: `value ${state.kind}`, title: stateText(state) }, stateOf(state)),
     element(
       "dl",
       {},
       fact("Refused", "refused", String(state.refused)),
-      doing !== undefined && fact("Handler", "doing", doing),
+      machine === "play" && fact("Handler", "doing", doing ?? ""),
     ),
-    element("p", { class: "note" }, tickets.length === 0 ? "No block waits here." : "Its queue, the first one first:"),
-    element("ol", { class: "queue" }, ...tickets, ...lanes.map((it) => laneItem(names, it))),
-    journalOf(shown, state.object, names),
+    ...queueOf(shown.queues.find((it) => it.object === object), names),
+    ...journalOf(shown.journals.get(object) ?? { count: 0, items: [] }, object, names),
   );
 }
 
 /** All clients, and all objects with their handlers. */
 export function drawState(shown: Shown, scene: Scene): HTMLElement[] {
-  const holdings = holdingsOf(shown.steps);
-  const clients = shown.standings.map((standing) => clientCard(shown, standing, holdings, scene));
-  const objects = shown.report.states.map((state) => objectCard(shown, state, holdings, scene));
+  const clients = shown.standings.map((standing) => clientCard(shown, standing, scene));
+  const objects = shown.states.map((state) => objectCard(shown, state, scene));
   return [
     element("section", { "aria-label": "Clients" }, element("h3", {}, "Clients"), ...clients),
     element("section", { "aria-label": "Objects" }, element("h3", {}, "Objects and their handlers"), ...objects),
   ];
 }
 
-function ticketItem(ticket: Ticket, names: Names): HTMLElement {
-  const { client, block } = ticket;
-  const events = ticket.trace.slice(-MOST_DRAWN).map((event) => {
+function ticketItem({ client, block, done, trace, syncs }: TicketPart, names: Names): HTMLElement {
+  const events = trace.items.map((event) => {
     const mark = event.refused === true ? "refused" : event.none ? "none" : event.refused === null ? "waiting" : "ran";
     return element("li", { class: mark }, element("code", {}, eventText(event)));
   });
-  const syncs = (ticket.sync_counts ?? []).map(({ object, count }) => `${object} ${count}`);
-  const last = `The last ${events.length} of ${ticket.trace.length}:`;
-  const earlier = ticket.trace.length > events.length && element("p", { class: "note" }, last);
+  const counts = syncs.map(({ object, count }) => `${object} ${count}`);
+  const last = `The last ${events.length} of ${trace.count}:`;
+  const earlier = trace.count > events.length && element("p", { class: "note" }, last);
   return element(
     "li",
     { class: "ticket", "data-ticket": `${client} ${block}` },
     blockName(names, client, block),
     " ",
-    element("span", { class: "done" }, ticket.done ? "done" : "open"),
-    syncs.length > 0 && element("span", { class: "syncs", title: "Synchronisations" }, ` syncs: ${list(syncs)}`),
+    element("span", { class: "done" }, done ? "done" : "open"),
+    counts.length > 0 && element("span", { class: "syncs", title: "Synchronisations" }, ` syncs: ${list(counts)}`),
     earlier,
     element("ol", { class: "trace" }, ...events),
   );
 }
 
 /** The blocks in the order of their reservations. */
-export function drawOrder({ report }: Shown, names: Names): HTMLElement[] {
-  const drawn = report.order.slice(-MOST_DRAWN);
-  const earlier = report.order.length - drawn.length;
-  const syncs = counted(report.syncs, "synchronisation");
-  const last = earlier > 0 ? `; the last ${drawn.length}:` : "";
-  return [
-    element("h3", {}, "Order of blocks"),
-    element("p", { class: "note" }, `${report.order.length} begun, ${syncs} sent${last}`),
-    element("ol", { class: "tickets", start: earlier + 1 }, ...drawn.map((it) => ticketItem(it, names))),
-  ];
+export function drawOrder({ tickets, syncs }: Shown, names: Names): HTMLElement {
+  const { count, items } = tickets;
+  const drawn = items.map((it) => ticketItem(it, names));
+  const last = count > items.length ? `; the last ${items.length}:` : "";
+  return element(
+    "div",
+    {},
+    element("p", { class: "note" }, `${count} begun, ${counted(syncs, "synchronisation")} sent${last}`),
+    element("ol", { class: "tickets", start: count - items.length + 1 }, ...drawn),
+  );
 }
 
 /** Who steps: a client in its colour, or the object whose handler does. */
@@ -217,12 +234,8 @@ export function stepText(step: Step, names: Names): HTMLElement {
   return element("span", { class: "step-text" }, actorName(step, names), ` ${stepWords(step)}`);
 }
 
-/** The steps so far, the last one first. */
-export function drawSteps({ steps }: Shown, names: Names): HTMLElement[] {
-  const drawn = steps.slice(-MOST_DRAWN).reverse();
-  const items = drawn.map((step) => element("li", {}, stepText(step, names)));
-  return [
-    element("h3", {}, "Steps so far, the last one first"),
-    element("ol", { class: "steps", reversed: true, start: steps.length }, ...items),
-  ];
+/** The last of the steps so far, the very last one first. */
+export function drawSteps({ steps }: Shown, names: Names): HTMLElement {
+  const items = [...steps.items].reverse().map((step) => element("li", {}, stepText(step, names)));
+  return element("ol", { reversed: true, start: steps.count }, ...items);
 }

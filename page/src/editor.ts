@@ -6,13 +6,26 @@ import { element } from "./element";
 import { type Fault, type Place, sentenceOf } from "./faults";
 import "./language";
 
+/** How many lines are marked without a pause. */
+const SLICE = 50;
+const CLAIMS = "claims-gutter";
 const GUTTERS = ["CodeMirror-linenumbers"];
-const GUTTERS_WITH_CLAIMS = [...GUTTERS, "claims-gutter"];
+const GUTTERS_WITH_CLAIMS = [...GUTTERS, CLAIMS];
+
+/** A line of the editor, with what stands beside it. */
+interface MarkedLine extends CodeMirror.LineHandle {
+  gutterMarkers?: Record<string, HTMLElement>;
+}
 
 export class Editor {
   private readonly mirror: CodeMirror.Editor;
   private mark: CodeMirror.TextMarker<unknown> | undefined;
+  private claimMarks: CodeMirror.TextMarker<unknown>[] = [];
   private line: CodeMirror.LineHandle | undefined;
+  private hasRoom = false;
+  private timer = 0;
+  /** What a mark of a claim stands for. */
+  private readonly marks = new WeakMap<HTMLElement, object>();
 
   constructor(place: HTMLElement, onChange: () => void) {
     this.mirror = CodeMirror(place, {
@@ -44,6 +57,15 @@ export class Editor {
     this.mark = fault?.place && this.marked(fault.place, sentenceOf(fault.refusal));
   }
 
+  /** Marks the places of claims that are refused, in place of those before. */
+  showClaimFaults(faults: readonly Fault[]): void {
+    this.mirror.operation(() => {
+      for (const it of this.claimMarks) it.clear();
+      const mark = ({ place, refusal }: Fault) => place && this.marked(place, sentenceOf(refusal));
+      this.claimMarks = faults.flatMap((it) => mark(it) ?? []);
+    });
+  }
+
   private marked({ line, from, to }: Place, title: string): CodeMirror.TextMarker<unknown> {
     const start = { line, ch: from };
     const attributes = { title };
@@ -55,15 +77,35 @@ export class Editor {
 
   /** Makes room for the answers to claims beside the numbers of lines, or takes it away. */
   makeRoomForClaims(hasClaims: boolean): void {
+    if (hasClaims === this.hasRoom) return;
+    this.hasRoom = hasClaims;
     this.mirror.setOption("gutters", hasClaims ? GUTTERS_WITH_CLAIMS : GUTTERS);
   }
 
-  /** Puts these answers to claims at their lines, from 0 on, in place of all that are there. */
-  markClaims(marks: Map<number, HTMLElement>): void {
-    this.mirror.operation(() => {
-      this.mirror.clearGutter("claims-gutter");
-      for (const [line, mark] of marks) this.mirror.setGutterMarker(line, "claims-gutter", mark);
+  /** Puts a mark for each of these at its line, from 0 on; those that are there already stay, and others go. */
+  markClaims<It extends object>(marked: ReadonlyMap<number, It>, mark: (it: It) => HTMLElement): void {
+    const changes: (() => void)[] = [];
+    let line = 0;
+    this.mirror.eachLine((handle) => {
+      const due = marked.get(line++);
+      const has = (handle as MarkedLine).gutterMarkers?.[CLAIMS];
+      if (due === undefined ? has === undefined : has !== undefined && this.marks.get(has) === due) return;
+      changes.push(() => {
+        const made = due === undefined ? null : mark(due);
+        if (made !== null && due !== undefined) this.marks.set(made, due);
+        this.mirror.setGutterMarker(handle, CLAIMS, made);
+      });
     });
+    this.inSlices(changes);
+  }
+
+  /** Makes changes, some at once and more after a pause, unless there are others by then. */
+  private inSlices(changes: (() => void)[]): void {
+    clearTimeout(this.timer);
+    this.mirror.operation(() => {
+      for (const change of changes.splice(0, SLICE)) change();
+    });
+    if (changes.length > 0) this.timer = window.setTimeout(() => this.inSlices(changes));
   }
 
   /** Shows the line of a block, from 1 on, in the middle of the editor. */

@@ -13,7 +13,7 @@ function setAttributes(it: Element, attributes: Attributes): void {
   }
 }
 
-function append(it: Element, children: Child[]): void {
+function append(it: Element, children: readonly Child[]): void {
   for (const child of children) {
     if (child === null || child === undefined || child === false) continue;
     it.append(child instanceof Node ? child : String(child));
@@ -55,8 +55,33 @@ export function byId<Kind extends HTMLElement = HTMLElement>(id: string): Kind {
   return it as Kind;
 }
 
+/** How often an element was filled. */
+const fillings = new WeakMap<Element, number>();
+/** How long a list is made without a pause, in milliseconds. */
+const SLICE = 15;
+
 /** Puts children in place of those that an element has. */
 export function fill(it: Element, ...children: Child[]): void {
+  fillings.set(it, (fillings.get(it) ?? 0) + 1);
   it.replaceChildren();
   append(it, children);
+}
+
+/** Lets the page do what else it has to do. */
+export function pause(): Promise<void> {
+  return new Promise((resolve) => setTimeout(resolve));
+}
+
+/** The same for a long list, which is made in slices, so that the page stays alive; another filling ends this one. */
+export async function fillInSlices(it: Element, makers: readonly (() => Child)[]): Promise<void> {
+  fill(it);
+  const filling = fillings.get(it);
+  let began = performance.now();
+  for (const make of makers) {
+    append(it, [make()]);
+    if (performance.now() - began < SLICE) continue;
+    await pause();
+    if (fillings.get(it) !== filling) return;
+    began = performance.now();
+  }
 }

@@ -4,29 +4,30 @@ import {
   type End,
   type Refusal,
   type State,
+  type Verdict,
   type Witness,
-  endsIn,
   estimateIn,
   refusalIn,
   stateText,
-  valuesIn,
-  verdictsIn,
 } from "./answers";
 import { Chart } from "./chart";
+import { codeOf } from "./code";
 import { clientName } from "./drawing";
-import { byId, counted, element, fill } from "./element";
-import { type Executor, Stopped } from "./executor";
+import { byId, counted, element, fill, fillInSlices } from "./element";
+import { type Executor, type Read, Stopped } from "./executor";
 import { sentenceOf, toldQuestion } from "./faults";
+import type { Names, Part } from "./readings";
 import { MANY, isOverLimit, limit, overLimit } from "./search";
-import type { Names } from "./session";
 import { drawValues } from "./values";
+import { orderTo, sentenceOfVerdict } from "./verdicts";
 
-const MOST_SHOWN = 200;
 const MOST_CHARTED = 200;
+const MOST_BLOCKS = 64;
 
 const OF_SUMS = "a sum adds up numbers, variables and queries, as in `a.balance() + ann.x - 3`";
 
-type Draw = (answer: string) => Node[];
+/** Asks by these words and draws the answer. */
+type Reader = (words: string[], script: string) => Promise<Read<unknown>>;
 
 export class Ends {
   private script: string | undefined;
@@ -60,15 +61,16 @@ export class Ends {
     });
   }
 
-  /** Another script, with the names of its clients: what is shown is of the one before. */
+  /** Another script, with the names of its clients: unless only its comments differ, what is shown is taken off. */
   begin(script: string | undefined, names: Names): void {
     if (script === this.script) return;
+    const isSame = codeOf(script ?? "") === codeOf(this.script ?? "");
     this.script = script;
+    if (isSame) return;
     this.names = names;
     this.isCurrent = false;
     this.executor.stop();
-    for (const id of ["ends", "chart", "answer", "values"]) fill(byId(id));
-    byId("found").textContent = "";
+    for (const id of ["ends", "chart", "answer", "values", "found"]) fill(byId(id));
   }
 
   /** Finds the ends when the part is looked at for the first time. */
@@ -82,11 +84,11 @@ export class Ends {
     this.isCurrent = true;
     await this.guarded("found", async () => {
       const began = performance.now();
-      const { text } = await this.executor.ask("outcomes", script, "--limit", limit(), "--format", "json");
-      const refusal = refusalIn(text);
+      const words = ["--limit", limit(), "--format", "json"];
+      const { value, refusal } = await this.executor.read("ends", "outcomes", script, ...words);
       if (refusal !== undefined) return this.tellRefused(script, refusal);
-      const { ends, configurations } = endsIn(text);
-      this.drawEnds(ends, configurations, performance.now() - began);
+      const { ends, configurations } = value;
+      await this.drawEnds(ends, configurations, performance.now() - began);
       if (configurations > MANY) this.executor.end();
       await this.drawChart(script, configurations);
     });
@@ -118,13 +120,14 @@ export class Ends {
     fill(byId("chart"));
   }
 
-  private drawEnds(ends: End[], configurations: number, time: number): void {
+  private async drawEnds(ends: Part<End>, configurations: number, time: number): Promise<void> {
     const seconds = time < 1000 ? "" : ` in ${(time / 1000).toFixed(1)} seconds`;
-    const found = [counted(ends.length, "end"), counted(configurations, "configuration")];
+    const found = [counted(ends.count, "end"), counted(configurations, "configuration")];
+    const items = ends.items.map((it) => () => this.endItem(it));
+    const rest = ends.count - ends.items.length;
+    const more = () => rest > 0 && element("li", { class: "note" }, `and ${rest} more`);
+    await fillInSlices(byId("ends"), [...items, more]);
     byId("found").textContent = `${found.join(", ")}${seconds}`;
-    const items = ends.slice(0, MOST_SHOWN).map((it) => this.endItem(it));
-    const more = ends.length - items.length;
-    fill(byId("ends"), ...items, more > 0 && element("li", { class: "note" }, `and ${more} more`));
   }
 
   private endItem(end: End): HTMLElement {
@@ -143,14 +146,16 @@ export class Ends {
   }
 
   /** The blocks of an order, by their clients' names and numbers. */
-  private blocks(order: readonly string[]): HTMLElement[] {
+  private blocks(order: readonly string[]): (HTMLElement | string)[] {
     const counts = new Map<string, number>();
-    return order.map((client) => {
+    const names = order.slice(0, MOST_BLOCKS).map((client) => {
       const block = counts.get(client) ?? 0;
       counts.set(client, block + 1);
       const name = this.names.clients[Number(client.slice(1))]!;
       return clientName(this.names, name, `${name} ${block}`);
     });
+    const rest = order.length - names.length;
+    return rest > 0 ? [...names, ` and ${rest} more`] : names;
   }
 
   private facts(states: State[], clients: ClientVariables[]): HTMLElement {
@@ -168,32 +173,41 @@ export class Ends {
       fill(byId("chart"), element("p", { class: "note" }, text));
       return;
     }
-    const { text } = await this.executor.ask("outcomes", script, "--format", "dot");
-    this.chart.draw(text, this.names);
+    const { value } = await this.executor.read("chart", "outcomes", script, "--format", "dot");
+    if (value !== undefined) this.chart.draw(value, this.names);
   }
 
   private async question(): Promise<void> {
     const kind = byId<HTMLSelectElement>("kind").value;
-    await this.ask("answer", kind, byId<HTMLInputElement>("condition").value, (text) => this.drawAnswer(text));
+    await this.ask("answer", kind, byId<HTMLInputElement>("condition").value, async (words, script) => {
+      const read = await this.executor.read("verdicts", "ask", script, ...words);
+      if (read.value === undefined) return read;
+      const verdict = read.value[0]!;
+      fill(byId("answer"), ...this.drawAnswer(verdict));
+      if (verdict.witness !== null) this.chart.show(orderTo(verdict.witness));
+      return read;
+    });
   }
 
   private async values(): Promise<void> {
-    const draw = (text: string) => drawValues(valuesIn(text), this.playOrder);
-    await this.ask("values", "values", byId<HTMLInputElement>("sum").value, draw);
+    await this.ask("values", "values", byId<HTMLInputElement>("sum").value, async (words, script) => {
+      const read = await this.executor.read("values", "ask", script, ...words);
+      if (read.value !== undefined) await drawValues(byId("values"), read.value, this.playOrder);
+      return read;
+    });
   }
 
-  /** Asks a question by a setting of `ask`, and shows at its place what is drawn of the answer. */
-  private async ask(id: string, setting: string, written: string, draw: Draw): Promise<void> {
+  /** Asks a question by a setting of `ask`, and tells at its place what was refused. */
+  private async ask(id: string, setting: string, written: string, read: Reader): Promise<void> {
     const script = this.script;
     const question = written.trim().replace(/\n/g, " ");
     if (script === undefined || question === "") return;
     byId(id).classList.remove("before");
     await this.guarded(id, async () => {
       const words = [`--${setting}=${question}`, "--limit", limit(), "--format", "json"];
-      const { text } = await this.executor.ask("ask", script, ...words);
-      const refusal = refusalIn(text);
-      if (refusal === undefined) fill(byId(id), ...draw(text));
-      else if (isOverLimit(refusal)) fill(byId(id), overLimit());
+      const { refusal } = await read(words, script);
+      if (refusal === undefined) return;
+      if (isOverLimit(refusal)) fill(byId(id), overLimit());
       else fill(byId(id), ...toldQuestion(await this.explained(refusal, setting, question), question));
     });
   }
@@ -205,26 +219,32 @@ export class Ends {
     const head = `#? ${setting} `;
     const { text } = await this.executor.ask("ask", head + question, "--format", "json");
     const { column, ...told } = refusalIn(text) ?? refusal;
+    const claim = "a claim of the script";
+    if (told.cause !== undefined) {
+      told.cause = told.cause.replace(`${claim} cannot be parsed: `, "").replace(claim, "the condition");
+    }
     return column === undefined ? told : { ...told, column: column - head.length };
   }
 
-  private drawAnswer(text: string): HTMLElement[] {
-    const { kind, yes, witness, configurations } = verdictsIn(text)[0]!;
-    const looked = `${counted(configurations, "configuration")} looked at`;
-    const head = element("p", { class: "verdict" }, element("b", {}, `${kind} ${yes ? "yes" : "no"}`), `, ${looked}`);
+  private drawAnswer(verdict: Verdict): HTMLElement[] {
+    const { kind, witness, configurations } = verdict;
+    const looked = ` (${counted(configurations, "configuration")} looked at)`;
+    const head = element("p", { class: "verdict" }, element("b", {}, sentenceOfVerdict(verdict)), looked);
     const holds = ["some", "ever", "never"].includes(kind);
     return witness === null ? [head] : [head, this.witness(witness, holds)];
   }
 
-  private witness({ order, after, states, clients }: Witness, holds: boolean): HTMLElement {
-    const blocks = order ?? after ?? [];
-    const what = after === undefined ? "An end" : "A configuration";
-    const head = `${what} where it ${holds ? "holds" : "does not hold"}`;
+  private witness(witness: Witness, holds: boolean): HTMLElement {
+    const { after, states, clients } = witness;
+    const order = orderTo(witness);
+    const what = after === undefined ? "An end" : "A state between blocks";
+    const head = `${what} where it is ${holds ? "true" : "false"}: `;
+    const blocks = order.length === 0 ? ["the beginning"] : this.blocks(order);
     return element(
       "div",
       { class: "card witness" },
-      element("p", {}, `${head}: `, this.playButton(blocks)),
-      element("p", { class: "blocks" }, ...(blocks.length === 0 ? ["the beginning"] : this.blocks(blocks))),
+      element("p", {}, head, this.playButton(order)),
+      element("p", { class: "blocks" }, ...blocks),
       this.facts(states, clients),
     );
   }

@@ -1,4 +1,6 @@
 // Calls of the executor, which runs in a worker, so that the page never waits for it and can end a long search.
+import type { Refusal } from "./answers";
+import type { Readings } from "./readings";
 import type { Call, Reply } from "./worker";
 
 export interface Answer {
@@ -12,8 +14,11 @@ export class Stopped extends Error {}
 /** Asks what `qs WORD WORDS..` writes for a script. */
 export type Ask = (word: string, script: string, ...words: string[]) => Promise<Answer>;
 
+/** An answer as it was read, or why it was refused. */
+export type Read<It> = { value: It; refusal?: undefined } | { value?: undefined; refusal: Refusal };
+
 interface Waiting {
-  resolve: (answer: Answer) => void;
+  resolve: (reply: Reply) => void;
   reject: (error: Error) => void;
 }
 
@@ -27,14 +32,30 @@ export class Executor {
     private readonly source: string,
   ) {}
 
-  readonly ask: Ask = (word, script, ...words) => {
+  readonly ask: Ask = async (word, script, ...words) => {
+    const { text = "", status = 0 } = await this.call({ word, script, words });
+    return { text, status };
+  };
+
+  /** Asks the same, and has the answer read in the worker, by the name of a reading and what is given to it. */
+  async read<Name extends keyof Readings>(
+    reading: Name | [Name, Parameters<Readings[Name]>[1]],
+    word: string,
+    script: string,
+    ...words: string[]
+  ): Promise<Read<ReturnType<Readings[Name]>>> {
+    const [name, given] = Array.isArray(reading) ? reading : [reading, undefined];
+    const { value, refusal } = await this.call({ word, script, words, reading: name, given });
+    return refusal === undefined ? { value: value as ReturnType<Readings[Name]> } : { refusal };
+  }
+
+  private call(call: Omit<Call, "number">): Promise<Reply> {
     const number = ++this.count;
-    const call: Call = { number, word, script, words };
     return new Promise((resolve, reject) => {
       this.waiting.set(number, { resolve, reject });
-      this.started().postMessage(call);
+      this.started().postMessage({ ...call, number });
     });
-  };
+  }
 
   /** Ends all calls, which are then stopped. */
   stop(): void {
@@ -63,8 +84,8 @@ export class Executor {
     const waiting = this.waiting.get(reply.number);
     if (waiting === undefined) return;
     this.waiting.delete(reply.number);
-    if (reply.text !== undefined && reply.status !== undefined) {
-      waiting.resolve({ text: reply.text, status: reply.status });
+    if (reply.failed === undefined) {
+      waiting.resolve(reply);
       return;
     }
     // A module that has failed in the middle of a call may be in any state.

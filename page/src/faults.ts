@@ -22,7 +22,7 @@ export interface Checked {
 }
 
 /** Why something is refused, in the program's words. */
-function causeOf({ fault, cause = fault, label }: Refusal): string {
+export function causeOf({ fault, cause = fault, label }: Refusal): string {
   return label === undefined ? cause : `${cause}; ${label}`;
 }
 
@@ -58,13 +58,13 @@ export async function check(ask: Ask, script: string): Promise<Checked> {
 }
 
 /** A sentence of the program, in which code stands between backticks. */
-function withCode(sentence: string): (Node | string)[] {
+export function withCode(sentence: string): (Node | string)[] {
   const parts = sentence.split("`");
   if (parts.length % 2 === 0) return [sentence];
   return parts.map((part, index) => (index % 2 === 0 ? part : element("code", {}, part)));
 }
 
-function helpOf({ help }: Refusal): HTMLElement[] {
+export function helpOf({ help }: Refusal): HTMLElement[] {
   return (help?.split("\n") ?? []).map((it) => element("p", { class: "help" }, ...withCode(it)));
 }
 

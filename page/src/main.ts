@@ -1,12 +1,14 @@
 // The page: a script is written on one side; on the other it is stepped, asked about and compared.
 import { isSupported } from "../../bindings/wasm/qs.mjs";
 import { Claims } from "./claims";
+import { codeOf } from "./code";
 import { Compare } from "./compare";
 import { Editor } from "./editor";
 import { byId, counted, element, fill } from "./element";
 import { Ends } from "./ends";
 import { Executor } from "./executor";
 import { type Checked, check, toldFault } from "./faults";
+import { startHints } from "./hints";
 import { fragmentOf, fromBase64, scriptIn, unzipped } from "./link";
 import { Stepping } from "./stepping";
 import { startTabs } from "./tabs";
@@ -44,6 +46,9 @@ class Page {
   /** The last script that was no example, so that it is there again. */
   private own: string | undefined;
   private accepted: string | undefined;
+  /** The code of the script that was accepted last, and of the one that is in the editor. */
+  private acceptedCode: string | undefined;
+  private code: string | undefined;
   private part: string = PARTS[0];
   private timer = 0;
   private turn = 0;
@@ -54,13 +59,13 @@ class Page {
     const play = (order: readonly string[]) => void this.play(order);
     this.ends = new Ends(new Executor(module, worker), play);
     this.claims = new Claims(new Executor(module, worker), this.editor, play);
-    this.comparison = new Compare(this.quick.ask);
+    this.comparison = new Compare(this.quick);
     this.stepping = new Stepping(
-      this.quick.ask,
+      this.quick,
       (line) => this.editor.showLine(line),
       (shown, { names }) => {
         this.ends.begin(this.accepted, names);
-        this.comparison.begin(this.accepted, names, orderOf(shown.report.order, names));
+        this.comparison.begin(this.accepted, names, orderOf(shown.order, names));
       },
     );
     this.show = startTabs(PARTS, (id) => this.shown(id));
@@ -125,7 +130,9 @@ class Page {
   }
 
   private changed(): void {
-    this.claims.clear();
+    const code = codeOf(this.editor.script);
+    this.claims.change(this.editor.script, code === this.code);
+    this.code = code;
     if (this.editor.script !== this.example?.script) {
       this.own = this.editor.script;
       byId<HTMLSelectElement>("example").value = "";
@@ -146,8 +153,11 @@ class Page {
     this.accepted = checked.fault === undefined ? script : undefined;
     byId("parts").classList.toggle("is-refused", checked.fault !== undefined);
     byId("parts").inert = checked.fault !== undefined;
-    await this.stepping.begin(this.accepted);
-    if (this.accepted === this.editor.script) this.claims.begin(this.accepted);
+    const code = codeOf(script);
+    const isSame = code === this.acceptedCode;
+    if (this.accepted !== undefined) this.acceptedCode = code;
+    await this.stepping.begin(this.accepted, isSame);
+    if (this.accepted === this.editor.script) this.claims.begin();
     if (this.part !== PARTS[0]) this.shown(this.part);
     byId("parts").dataset["turn"] = String(turn);
   }
@@ -184,6 +194,7 @@ function fail(message: string): void {
 }
 
 async function start(): Promise<void> {
+  startHints();
   if (typeof WebAssembly === "undefined" || !isSupported()) {
     fail("This browser has no WebAssembly with addresses of 64 bits; Chromium has it from 133 on, Firefox from 134.");
     return;

@@ -1,19 +1,8 @@
 // One script stepped by one machine. Every state is what the program answers for the picks that led to it.
-import {
-  type Block,
-  type ClientVariables,
-  type Report,
-  type Run,
-  type Step,
-  lastStepIn,
-  queuesIn,
-  refusalIn,
-  runIn,
-  stepsIn,
-  verdictsIn,
-} from "./answers";
-import type { Answer, Ask } from "./executor";
+import type { Block, ClientVariables, Step } from "./answers";
+import type { Executor, Read } from "./executor";
 import { sentenceOf } from "./faults";
+import type { Names, RunPart } from "./readings";
 
 export interface Machine {
   word: "rules" | "play";
@@ -22,22 +11,17 @@ export interface Machine {
 }
 
 /** A state, and the steps that led to it. */
-export interface Shown extends Run {
+export interface Shown extends RunPart {
   picks: readonly string[];
-  /** The variables at the end, or else after the blocks that are done. */
+  /** The variables, and whether they are only those after the blocks that are done. */
   variables: ClientVariables[];
+  areOfDoneBlocks: boolean;
 }
 
-/** Somebody who has a step, as `c0` or `h1`, and what the step would be. */
+/** A client or a handler, as `c0` or `h1`, and what its step would be, if it has one. */
 export interface Choice {
   actor: string;
-  step: Step;
-}
-
-/** The names of a script's clients and objects, in text order. */
-export interface Names {
-  clients: string[];
-  objects: string[];
+  step: Step | undefined;
 }
 
 /** The steps to the end that are asked for at once. */
@@ -45,10 +29,9 @@ export const MOST_STEPS = 4000;
 
 export class Refused extends Error {}
 
-function answered({ text }: Answer): string {
-  const refusal = refusalIn(text);
+function answered<It>({ value, refusal }: Read<It>): It {
   if (refusal !== undefined) throw new Refused(sentenceOf(refusal));
-  return text;
+  return value;
 }
 
 /** The clients of an order of blocks, as `c0`. */
@@ -56,77 +39,81 @@ export function orderOf(order: readonly Block[], names: Names): string[] {
   return order.map(({ client }) => `c${names.clients.indexOf(client)}`);
 }
 
+/** All clients and handlers of a script, as picks name them. */
+export function actorsOf({ clients, objects }: Names): string[] {
+  return [...clients.keys()].map((it) => `c${it}`).concat([...objects.keys()].map((it) => `h${it}`));
+}
+
 /** The words of a line that plays picks, and then rounds. */
-function schedule(picks: readonly string[], rounds = 0): string[] {
-  return [...(picks.length === 0 ? [] : ["--pick", picks.join(",")]), "--rounds", String(rounds)];
+function schedule(picks: string, rounds = 0): string[] {
+  return [...(picks === "" ? [] : ["--pick", picks]), "--rounds", String(rounds)];
 }
 
 export class Session {
   private constructor(
-    private readonly ask: Ask,
+    private readonly executor: Executor,
     private readonly script: string,
     readonly machine: Machine,
     readonly names: Names,
   ) {}
 
-  static async begin(ask: Ask, script: string, machine: Machine): Promise<Session> {
-    const text = answered(await ask("rules", script, "--rounds", "0", "--queues", "--format", "json"));
-    const { queues, clients } = queuesIn(text);
-    const objects = queues.map(({ object }) => object);
-    return new Session(ask, script, machine, { objects, clients: clients.map(({ client }) => client) });
+  static async begin(executor: Executor, script: string, machine: Machine): Promise<Session> {
+    const words = ["--rounds", "0", "--queues", "--format", "json"];
+    const names = answered(await executor.read("names", "rules", script, ...words));
+    return new Session(executor, script, machine, names);
   }
 
-  /** The steps of the words of a schedule, the report, and whatever more is asked for. */
-  private async play(...words: string[]): Promise<string> {
+  /** The words of a schedule as the machine plays them, with the steps and whatever more is asked for. */
+  private words(...words: string[]): [word: string, script: string, ...words: string[]] {
     const { word, mode, chunk } = this.machine;
     const settings = word === "rules" ? [] : ["--mode", mode, "--chunk", String(chunk)];
-    return answered(await this.ask(word, this.script, ...settings, ...words, "--steps", "--format", "json"));
+    return [word, this.script, ...settings, ...words, "--steps", "--format", "json"];
   }
 
   /** The state after picks. */
   async look(picks: readonly string[]): Promise<Shown> {
-    const run = runIn(await this.play(...schedule(picks), "--counts", "--queues"));
-    return { picks, ...run, variables: run.report.clients ?? (await this.variablesAfterDone(run.report)) };
+    const words = this.words(...schedule(picks.join(",")), "--counts", "--queues");
+    const run = answered(await this.executor.read("run", ...words));
+    const variables = run.variables ?? (await this.variablesAfterDone(run));
+    return { ...run, picks, variables, areOfDoneBlocks: run.variables === null };
   }
 
   /** The variables after the blocks that are done: the witness of what is never so, from there on. */
-  private async variablesAfterDone({ order }: Report): Promise<ClientVariables[]> {
+  private async variablesAfterDone({ order }: RunPart): Promise<ClientVariables[]> {
     const done = orderOf(order.filter((it) => it.done), this.names);
     const after = done.length === 0 ? [] : ["--after", done.join(",")];
-    const { text } = await this.ask("ask", this.script, ...after, "--throughout", "0 == 1", "--format", "json");
-    return refusalIn(text) === undefined ? verdictsIn(text)[0]?.witness?.clients ?? [] : [];
+    const words = [...after, "--throughout", "0 == 1", "--format", "json"];
+    const { value } = await this.executor.read("verdicts", "ask", this.script, ...words);
+    return value?.[0]?.witness?.clients ?? [];
   }
 
-  /** Who has a step after picks, and what it would do: each actor is picked once more, and the program says it. */
-  async choices(shown: Shown): Promise<Choice[]> {
-    if (shown.report.finished) return [];
-    const { clients, objects } = this.names;
-    const actors = [...clients.keys()].map((it) => `c${it}`).concat([...objects.keys()].map((it) => `h${it}`));
-    const tried = await Promise.all(actors.map((actor) => this.stepOf(shown.picks, actor)));
-    return tried.flatMap((step, index) => (step.does === "nothing" ? [] : [{ actor: actors[index]!, step }]));
+  /** What each actor would do after picks: each is picked once more, and the program says it. */
+  async choices({ picks, finished }: Shown): Promise<Choice[]> {
+    const actors = actorsOf(this.names);
+    if (finished) return actors.map((actor) => ({ actor, step: undefined }));
+    const before = picks.length === 0 ? "" : `${picks.join(",")},`;
+    const steps = await Promise.all(actors.map((actor) => this.stepOf(before + actor)));
+    return steps.map((step, index) => {
+      return { actor: actors[index]!, step: step.does === "nothing" ? undefined : step };
+    });
   }
 
-  private async stepOf(picks: readonly string[], actor: string): Promise<Step> {
-    return lastStepIn(await this.play(...schedule([...picks, actor])));
+  private async stepOf(picks: string): Promise<Step> {
+    return answered(await this.executor.read("lastStep", ...this.words(...schedule(picks))));
   }
 
   /** The picks to the end, or as many as are asked for at once. */
-  async toEnd(picks: readonly string[]): Promise<string[]> {
-    const actors = Math.max(this.names.clients.length + this.names.objects.length, 1);
-    return this.picksFor(stepsIn(await this.play(...schedule(picks, Math.ceil(MOST_STEPS / actors)))));
-  }
-
-  /** The picks for those of some steps that changed something. */
-  private picksFor(steps: readonly Step[]): string[] {
-    const { clients, objects } = this.names;
-    const pick = ({ client, object = "" }: Step) =>
-      client === undefined ? `h${objects.indexOf(object)}` : `c${clients.indexOf(client)}`;
-    return steps.filter(({ does }) => does !== "nothing").map(pick);
+  toEnd(picks: readonly string[]): Promise<string[]> {
+    const actors = Math.max(actorsOf(this.names).length, 1);
+    return this.picksOf(schedule(picks.join(","), Math.ceil(MOST_STEPS / actors)));
   }
 
   /** The picks that play whole blocks in an order. */
-  async picksOf(order: readonly string[]): Promise<string[]> {
-    if (order.length === 0) return [];
-    return this.picksFor(stepsIn(await this.play("--order", order.join(","))));
+  async playing(order: readonly string[]): Promise<string[]> {
+    return order.length === 0 ? [] : this.picksOf(["--order", order.join(",")]);
+  }
+
+  private async picksOf(words: string[]): Promise<string[]> {
+    return answered(await this.executor.read(["picks", this.names], ...this.words(...words)));
   }
 }

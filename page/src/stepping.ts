@@ -1,8 +1,9 @@
 // The part of the page in which a script is stepped.
-import { type Step, blockLinesIn, stepWords } from "./answers";
-import { type Scene, actorName, drawOrder, drawState, drawSteps, stepText } from "./drawing";
+import { type Step, standingWords, stepWords } from "./answers";
+import { type Scene, actorName, clientName, drawOrder, drawState, drawSteps, stepText } from "./drawing";
 import { byId, element, fill } from "./element";
-import { type Ask, Stopped } from "./executor";
+import { type Executor, Stopped } from "./executor";
+import type { Names } from "./readings";
 import { type Choice, type Machine, Session, type Shown } from "./session";
 
 export class Stepping {
@@ -11,18 +12,19 @@ export class Stepping {
   private picks: string[] = [];
   private at = 0;
   private turn = 0;
+  private beginning = 0;
   private running = 0;
   private scene: Scene;
   /** The state that is shown. */
   shown: Shown | undefined;
 
   constructor(
-    private readonly ask: Ask,
+    private readonly executor: Executor,
     private readonly showLine: (line: number) => void,
     private readonly onShown: (shown: Shown, session: Session) => void,
   ) {
-    this.scene = { names: { clients: [], objects: [] }, lines: new Map(), showLine };
-    const restart = () => void this.begin(this.script);
+    this.scene = { names: { clients: [], objects: [] }, machine: "rules", lines: new Map(), showLine };
+    const restart = () => void this.begin(this.script, false);
     for (const id of ["machine", "mode", "chunk"]) byId(id).addEventListener("change", restart);
     this.onClick("to-start", () => this.goTo(0));
     this.onClick("back", () => this.goTo(this.at - 1));
@@ -33,33 +35,38 @@ export class Stepping {
     byId("step").addEventListener("keydown", (event) => this.onKey(event));
   }
 
-  /** Begins anew with a script, or with none that is accepted. */
-  begin(script: string | undefined): Promise<void> {
-    return this.guarded(() => this.beginWith(script));
+  /** Begins anew with a script, or with none that is accepted. One that is the same but for comments has its steps. */
+  begin(script: string | undefined, isSame: boolean): Promise<void> {
+    return this.guarded(() => this.beginWith(script, isSame));
   }
 
   /** Plays whole blocks in an order, and shows what they lead to. */
   playOrder(order: readonly string[]): Promise<void> {
     return this.guarded(async () => {
+      if (this.session === undefined) return;
       const turn = ++this.turn;
       byId("now").textContent = "Playing the order ..";
-      const picks = await this.session?.picksOf(order);
-      if (picks !== undefined && turn === this.turn) await this.take(picks, picks.length);
+      const picks = await this.session.playing(order);
+      if (turn === this.turn) await this.take(picks, picks.length);
     });
   }
 
-  private async beginWith(script: string | undefined): Promise<void> {
-    const turn = ++this.turn;
+  private async beginWith(script: string | undefined, isSame: boolean): Promise<void> {
+    const beginning = ++this.beginning;
+    this.turn++;
     this.script = script;
     if (script === undefined) return;
-    const [session, graph] = await Promise.all([
-      Session.begin(this.ask, script, this.machine()),
-      this.ask("graph", script, "--format", "dot"),
+    if (!isSame) [this.session, this.picks, this.at] = [undefined, [], 0];
+    const machine = this.machine();
+    const [session, lines] = await Promise.all([
+      Session.begin(this.executor, script, machine),
+      this.executor.read("lines", "graph", script, "--format", "dot"),
     ]);
-    if (turn !== this.turn) return;
+    if (beginning !== this.beginning) return;
     this.session = session;
-    this.scene = { names: session.names, lines: blockLinesIn(graph.text), showLine: this.showLine };
-    await this.take([], 0);
+    const { names } = session;
+    this.scene = { names, machine: machine.word, lines: lines.value ?? new Map(), showLine: this.showLine };
+    await this.goTo(this.at);
   }
 
   private machine(): Machine {
@@ -127,7 +134,7 @@ export class Stepping {
   /** The next step that was made before, or else that of the first who has one. */
   private async forward(): Promise<void> {
     if (this.at < this.picks.length) return this.goTo(this.at + 1);
-    const first = byId("choices").querySelector<HTMLButtonElement>("button[data-actor]")?.dataset["actor"];
+    const first = byId("choices").querySelector<HTMLButtonElement>("button:not(:disabled)")?.dataset["actor"];
     if (first !== undefined) await this.step(first);
   }
 
@@ -141,8 +148,8 @@ export class Stepping {
     this.shown = shown;
     this.drawBar(shown);
     fill(byId("state"), ...drawState(shown, this.scene));
-    fill(byId("order"), ...drawOrder(shown, this.scene.names));
-    fill(byId("steps"), ...drawSteps(shown, this.scene.names));
+    fill(byId("tickets"), drawOrder(shown, this.scene.names));
+    fill(byId("steps"), drawSteps(shown, this.scene.names));
     this.onShown(shown, session);
   }
 
@@ -155,35 +162,49 @@ export class Stepping {
     byId("where").textContent = where;
     for (const id of ["to-start", "back"]) byId<HTMLButtonElement>(id).disabled = this.at === 0;
     for (const id of ["forward", "to-end"]) {
-      byId<HTMLButtonElement>(id).disabled = shown.report.finished && this.at === this.picks.length;
+      byId<HTMLButtonElement>(id).disabled = shown.finished && this.at === this.picks.length;
     }
-    fill(byId("now"), ...this.sentence(shown, shown.steps.at(-1)));
+    fill(byId("now"), ...this.sentence(shown, shown.steps.items.at(-1)));
     byId("step").dataset["picks"] = shown.picks.join(",");
   }
 
-  private sentence({ report }: Shown, last: Step | undefined): (Node | string)[] {
-    const end = report.finished ? " The run is finished." : "";
+  private sentence({ finished }: Shown, last: Step | undefined): (Node | string)[] {
+    const end = finished ? " The run is finished." : "";
     if (last === undefined) return [`Nobody has stepped yet.${end}`];
     return [`Step ${last.step}: `, stepText(last, this.scene.names), `.${end}`];
   }
 
-  private drawChoices(choices: Choice[], { report }: Shown): void {
+  /** A button for each actor, always at the same place; those that have no step cannot be pressed. */
+  private drawChoices(choices: Choice[], shown: Shown): void {
     const had = document.activeElement?.getAttribute("data-actor");
     const next = this.picks[this.at];
-    const buttons = choices.map((choice) => this.choiceButton(choice, choice.actor === next));
-    const head = report.finished ? "Nobody has a step left." : "Who steps next?";
-    fill(byId("choices"), element("span", { class: "label" }, head), ...buttons);
+    const buttons = choices.map((it) => this.choiceButton(it, it.actor === next, shown));
+    fill(byId("choices"), ...buttons);
     if (had !== null && had !== undefined) {
-      (buttons.find((it) => it.dataset["actor"] === had) ?? buttons[0] ?? byId("back")).focus();
+      const canStep = buttons.filter((it) => !it.disabled);
+      (canStep.find((it) => it.dataset["actor"] === had) ?? canStep[0] ?? byId("back")).focus();
     }
   }
 
-  private choiceButton({ actor, step }: Choice, isNext: boolean): HTMLButtonElement {
+  private choiceButton({ actor, step }: Choice, isNext: boolean, shown: Shown): HTMLButtonElement {
     const turn = this.turn;
+    if (step === undefined) return this.idleButton(actor, shown);
     // A button says what its actor would do now; one that is pressed while another step is on its way does nothing.
     const take = () => turn === this.turn && void this.guarded(() => this.step(actor));
-    const title = isNext ? "made next before" : undefined;
-    const attributes = { class: isNext ? "choice next" : "choice", "data-actor": actor, title, onclick: take };
-    return element("button", attributes, actorName(step, this.scene.names), ` ${stepWords(step)}`);
+    const title = `${stepWords(step)}${isNext ? " (made next before)" : ""}`;
+    const attributes = { type: "button", class: isNext ? "choice next" : "choice", "data-actor": actor, title };
+    const words = element("span", {}, actorName(step, this.scene.names), ` ${stepWords(step)}`);
+    return element("button", { ...attributes, onclick: take }, words);
+  }
+
+  /** The button of one who has no step, and why. */
+  private idleButton(actor: string, { standings }: Shown): HTMLButtonElement {
+    const names: Names = this.scene.names;
+    const name = names[actor.startsWith("c") ? "clients" : "objects"][Number(actor.slice(1))]!;
+    const standing = actor.startsWith("c") ? standings.find(({ client }) => client === name) : undefined;
+    const what = standing === undefined ? "has no step" : standingWords(standing);
+    const who = actor.startsWith("c") ? clientName(names, name) : element("b", {}, name);
+    const attributes = { type: "button", class: "choice", "data-actor": actor, disabled: true };
+    return element("button", attributes, element("span", {}, who, ` ${what}`));
   }
 }

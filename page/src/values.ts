@@ -1,8 +1,7 @@
 // The values that a sum has at the ends, as bars.
-import type { SumValue, SumValues } from "./answers";
-import { counted, element } from "./element";
-
-const MOST_SHOWN = 200;
+import type { SumValue } from "./answers";
+import { counted, element, fill, fillInSlices } from "./element";
+import type { Readings } from "./readings";
 
 type Play = (order: readonly string[]) => void;
 
@@ -26,15 +25,14 @@ function bar({ value, ends, order }: SumValue, most: number, play: Play): HTMLEl
   );
 }
 
-export function drawValues({ values, configurations }: SumValues, play: Play): HTMLElement[] {
-  const most = values.reduce((sofar, { ends }) => Math.max(sofar, ends), 1);
-  const all = values.reduce((sum, { ends }) => sum + ends, 0);
-  const found = `${counted(values.length, "value")} at ${counted(all, "end")}`;
-  const bars = values.slice(0, MOST_SHOWN).map((it) => bar(it, most, play));
-  const rest = values.length - bars.length;
-  const more = rest > 0 && element("li", { class: "note" }, `and ${rest} more`);
-  return [
-    element("p", { class: "note" }, `${found}, ${counted(configurations, "configuration")} looked at`),
-    element("ul", { class: "bars", "aria-label": "Values" }, ...bars, more),
-  ];
+export async function drawValues(place: HTMLElement, of: ReturnType<Readings["values"]>, play: Play): Promise<void> {
+  const { values, most, all, configurations } = of;
+  const found = `${counted(values.count, "value")} at ${counted(all, "end")}`;
+  const bars = values.items.map((it) => () => bar(it, most, play));
+  const rest = values.count - values.items.length;
+  const more = () => rest > 0 && element("li", { class: "note" }, `and ${rest} more`);
+  const list = element("ul", { class: "bars", "aria-label": "Values" });
+  const note = `${found}, ${counted(configurations, "configuration")} looked at`;
+  fill(place, element("p", { class: "note" }, note), list);
+  await fillInSlices(list, [...bars, more]);
 }

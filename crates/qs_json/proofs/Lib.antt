@@ -4,3 +4,4 @@ pub mod OneGraphJson
 pub mod OneOutcomesJson
 pub mod OneEndsJson
 mod EndsApart
+mod Replays

@@ -10,7 +10,7 @@ ghost use Rattle.qs_json.specs.audit.Pieces.{array, element, field, quoted};
 ghost use Rattle.qs_json.specs.audit.RunJson.{event_json, fate_json, reply_json, request_json, trace_json};
 
 use crate::pieces::{put_comma, put_integer, put_object_name, put_string};
-use qs_objects::{Event, Op};
+use qs_objects::{Event, Op, Request};
 use qs_program::Program;
 use qs_text::fates::Fate;
 use qs_text::put_word;
@@ -65,21 +65,21 @@ fn fate_words(fate: Option<Fate>) -> &'static [u8]
     }
 }
 
-// A request with its reply, and with what became of it.
-fn put_event(
+/// Puts a request at the end, as an object with its reply and with what became of it.
+pub fn put_event(
     out: &mut Vec<u8>,
     program: &Program,
-    event: &Event,
+    request: &Request,
+    reply: Option<i64>,
     fate: Option<Fate>,
 ) -> Result<(), AllocError>
-    ensures ok { OnOk result (Puts (event_json program.now event.now fate) out.old.items out.new.items) }
+    ensures ok { OnOk result (Puts (event_json program.now (record { request = request.now; reply = reply }) fate) out.old.items out.new.items) }
 {
-    let request = &event.request;
     put_object_name(out, program, request.object)?;
     put_operation(out, request.op)?;
     put_arguments(out, request.args.as_slice())?;
     put_word(out, b",\"reply\":")?;
-    put_reply(out, event.reply)?;
+    put_reply(out, reply)?;
     put_word(out, fate_words(fate))?;
     put_word(out, b"}")
 }
@@ -102,7 +102,14 @@ fn put_events(
 {
     for place in 0..trace.len() {
         put_comma(out, place)?;
-        put_event(out, program, &trace[place], fate_at(fates, place))?;
+        let event = &trace[place];
+        put_event(
+            out,
+            program,
+            &event.request,
+            event.reply,
+            fate_at(fates, place),
+        )?;
     }
     Ok(())
 }

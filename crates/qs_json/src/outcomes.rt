@@ -4,7 +4,6 @@ ghost use Rattle.std.specs.Prelude.{◌≡◌, ◌<◌, [], IfOk, OnOk, codes, l
 ghost use Rattle.std.specs.Fmt.{signed_decimal};
 ghost use Rattle.std.specs.List.{AllByRecursion, join_by};
 ghost use Rattle.qs_outcomes.specs.Outcomes.{HasPlaces};
-ghost use Rattle.qs_meaning.specs.audit.Serial.{zeros};
 ghost use Rattle.qs_program.specs.audit.Program.{client_at};
 ghost use Rattle.qs_text.specs.TellApart.{AreClientsOfWords, AreObjectsOfWords, AreWords, IsOfWords, IsWord};
 ghost use Rattle.qs_text.specs.audit.Texts.{texts_up_to};
@@ -12,7 +11,7 @@ ghost use Rattle.qs_text.specs.Texts.{Puts};
 ghost use Rattle.qs_text.specs.audit.Words.{no_state};
 ghost use Rattle.qs_json.specs.audit.Pieces.{array, element, field, first_field, quoted};
 ghost use Rattle.qs_json.specs.OutcomesJson.{client_json, head_json, listed_json, next_client_json, object_json, outcome_json, outcome_json_at, standing_fields};
-ghost use Rattle.qs_json.specs.audit.Variables.{variable_json, variables_json};
+ghost use Rattle.qs_json.specs.audit.Variables.{client_with, variable_json, variables_json};
 
 use crate::pieces::{put_client_name, put_comma, put_integer, put_string};
 use crate::states::put_state;
@@ -120,20 +119,19 @@ fn put_variables(out: &mut Vec<u8>, variables: &Names, locals: &Locals) -> Resul
     put_word(out, b"]")
 }
 
-// A client with its variables at the end.
-fn put_client(
+// A client with its variables.
+pub(crate) fn put_client(
     out: &mut Vec<u8>,
     program: &Program,
-    standing: &Standing,
     client: u8,
+    locals: &Locals,
 ) -> Result<(), AllocError>
     requires client { client < length program.now.clients }
-    requires place { client < length standing.now.locals }
-    ensures ok { OnOk result (Puts (client_json program.now standing.now client) out.old.items out.new.items) }
-    ensures words { OnOk result (AreWords (length (client_at program.now client).variables) (slice_index_or standing.now.locals client zeros)) }
+    ensures ok { OnOk result (Puts (client_with program.now (λ _. locals.now) client) out.old.items out.new.items) }
+    ensures words { OnOk result (AreWords (length (client_at program.now client).variables) locals.now) }
 {
     put_client_name(out, program, client)?;
-    put_variables(out, program.variables(client), &standing.locals(client))?;
+    put_variables(out, program.variables(client), locals)?;
     put_word(out, b"}")
 }
 
@@ -165,7 +163,7 @@ pub(crate) fn put_clients(
     program.keeps_sound();
     for client in 0..program.clients() as u8 {
         put_comma(out, usize::from(client))?;
-        put_client(out, program, standing, client)?;
+        put_client(out, program, client, &standing.locals(client))?;
     }
     Ok(())
 }

@@ -1,28 +1,27 @@
 // A run.
 
-ghost use Rattle.std.specs.Prelude.{◌≡◌, ◌<◌, [], IfOk, IfSome, OnOk, codes, false, length, option_map, slice_index_or};
+ghost use Rattle.std.specs.Prelude.{◌≡◌, ◌<◌, [], IfOk, OnOk, codes, false, length, slice_index_or};
 ghost use Rattle.std.specs.List.{join_by};
 ghost use Rattle.qs_sync_counts.specs.audit.SyncRows.{sync_count};
 ghost use Rattle.qs_text.specs.audit.fates.Fates.{trace_fates as fates_in};
 ghost use Rattle.qs_text.specs.fates.Fates.{all_fates};
-ghost use Rattle.qs_outcomes.specs.Outcomes.{HasPlaces};
-ghost use Rattle.qs_standings.specs.Standings.{configuration_in};
 ghost use Rattle.qs_text.specs.audit.Words.{first_ticket};
 ghost use Rattle.qs_text.specs.audit.Texts.{texts_up_to};
 ghost use Rattle.qs_text.specs.Texts.{Puts};
 ghost use Rattle.qs_json.specs.audit.Pieces.{array, element, field};
+ghost use Rattle.qs_json.specs.audit.Replay.{variables_in as variables_of};
 ghost use Rattle.qs_json.specs.audit.RunJson as definitions;
 ghost use Rattle.qs_json.specs.audit.RunJson.{block_json, object_json, sync_json, syncs_json, ticket_json, trace_json};
-ghost use Rattle.qs_json.specs.audit.Variables.{clients_or_null};
+ghost use Rattle.qs_json.specs.audit.Variables.{client_with};
 
 use crate::events::put_trace;
-use crate::outcomes::put_clients;
+use crate::outcomes::put_client;
 use crate::pieces::{put_client_name, put_comma, put_object_name, put_truth};
+use crate::replay::variables_in;
 use crate::states::put_state;
 use qs_objects::Ticket;
 use qs_played::Played;
 use qs_program::Program;
-use qs_standings::Standing;
 use qs_text::fates::{JournalFates, journal_fates, trace_fates};
 use qs_text::{object_name, put_count, put_word};
 use std::alloc::{AllocError, Global};
@@ -208,40 +207,31 @@ fn put_objects(out: &mut Vec<u8>, program: &Program, played: &Played) -> Result<
     Ok(())
 }
 
-// The clients with their variables where the program stands at the end, or null, as a field.
-fn put_end_of_run(
-    out: &mut Vec<u8>,
-    program: &Program,
-    end: Option<&Standing>,
-) -> Result<(), AllocError>
-    requires places { IfSome end (λ standing. HasPlaces program.now standing.now) }
-    ensures ok { OnOk result (Puts (field (codes "clients")
-        (clients_or_null program.now (option_map (λ standing. (configuration_in standing.now).locals) end.entry))) out.old.items out.new.items) }
+// All clients with their variables, with a comma between each two.
+fn put_clients(out: &mut Vec<u8>, program: &Program, played: &Played) -> Result<(), AllocError>
+    ensures ok { OnOk result (Puts (texts_up_to (length program.now.clients) (element (client_with program.now (variables_of program.now played.now)))) out.old.items out.new.items) }
 {
-    put_word(out, b",\"clients\":")?;
-    let Some(standing) = end else {
-        return put_word(out, b"null");
-    };
-    put_word(out, b"[")?;
-    put_clients(out, program, standing)?;
-    put_word(out, b"]")
+    program.keeps_sound();
+    for client in 0..program.clients() as u8 {
+        put_comma(out, usize::from(client))?;
+        let locals = variables_in(program, played, client);
+        put_client(out, program, client, &locals)?;
+    }
+    Ok(())
 }
 
 /// A run as one object on one line: the tickets in their order, each with its trace, in which each request says whether
 /// it was refused or found nothing, and with `counts` with its synchronisations for each object of its block's list;
-/// the objects' states; the clients' variables where the program stands at the run's end, or null where no end is
-/// given; the number of syncs; and whether the run is finished. A number past the program's objects or clients has no
-/// name. An error says that an allocation failed, and nothing is left.
+/// the objects' states; the clients' variables, after the requests that the traces show and before the next one; the
+/// number of syncs; and whether the run is finished. A number past the program's objects or clients has no name. An
+/// error says that an allocation failed, and nothing is left.
 pub fn run_json(
     alloc: Global,
     program: &Program,
     played: &Played,
-    end: Option<&Standing>,
     counts: bool,
 ) -> Result<Vec<u8>, AllocError>
-    requires places { IfSome end (λ standing. HasPlaces program.now standing.now) }
-    ensures text { IfOk result (λ bytes. bytes.items
-        ≡ definitions.run_json counts program.now played.now (option_map (λ standing. (configuration_in standing.now).locals) end.entry)) }
+    ensures text { IfOk result (λ bytes. bytes.items ≡ definitions.run_json counts program.now played.now) }
 {
     let fates = journal_fates(alloc, program, played)?;
     let mut out = Vec::new(alloc);
@@ -251,7 +241,9 @@ pub fn run_json(
     put_word(&mut out, b",\"states\":[")?;
     put_objects(&mut out, program, played)?;
     put_word(&mut out, b"]")?;
-    put_end_of_run(&mut out, program, end)?;
+    put_word(&mut out, b",\"clients\":[")?;
+    put_clients(&mut out, program, played)?;
+    put_word(&mut out, b"]")?;
     put_count(&mut out, b",\"syncs\":", played.syncs())?;
     put_truth(&mut out, b",\"finished\":", played.is_finished())?;
     put_word(&mut out, b"}\n")?;

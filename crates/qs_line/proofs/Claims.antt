@@ -35,7 +35,7 @@ use Rattle.qs_line.specs.RunLines.{LinesOfRunsAreThese, RunsAreLines}
 use Rattle.qs_line.specs.declared.line.ReportStyle.{ReportStyle}
 use Rattle.qs_line.specs.audit.Command.{qs_app}
 use Rattle.qs_line.specs.audit.Line.{Request, alike, ask, asks, asks_language, check, chunk_at, estimate, fronts, graph, has_times, help, mode_at, outcomes, plan_at, play, play_at, rules, rules_at, run, single_run_at, style_at, styled_plan_at, syncs, tally}
-use Rattle.qs_line.specs.Line.{alike_at, ask_at, blocks_at, check_at, estimate_at, format_at, front_at, fronts_at, graph_at, graph_format_at, leads_at, limit_at, line_by, line_in, line_met, line_of_kind, list_at, outcomes_at, outcomes_format_at, question_in, questions_at, questions_by, request_at, request_met, request_of_word, setting_name, syncs_at, tally_at, threads_beside, times_at}
+use Rattle.qs_line.specs.Line.{alike_at, ask_at, blocks_at, check_at, estimate_at, format_at, front_at, fronts_at, graph_at, graph_format_at, leads_at, limit_at, line_by, line_in, line_met, line_of_kind, list_at, outcomes_at, outcomes_format_at, question_in, questions_at, questions_by, request_at, request_met, request_of_word, setting_name, syncs_at, tally_at, threads_at, threads_beside, times_at}
 
 by_tree : (t : Result Tree ℕ) (steps : List Step) → steps_by_tree t ≡ Some steps → (c : Tree) × (steps ≡ steps_of c)
 by_tree (Ok c) steps e = (c, (let h : steps_of c ≡ steps = cc e in sym h))
@@ -168,7 +168,7 @@ module _ (word : Text) (rows : List Row) where
   tallies = next IsPlain _ (format_at rows) (λ how e. next IsPlain _ (mode_at rows) (λ mode f. next IsPlain _ (chunk_at rows) (λ chunk g. each IsPlain (tally how mode chunk) (times_at rows) (λ times. (tt, refl)))))
 
   answers : Has IsPlain (ask_at rows)
-  answers = next IsPlain _ (questions_at rows) (λ claims is. next IsPlain _ (format_at rows) (λ how e. next IsPlain _ (limit_at rows) (λ limit f. each IsPlain (ask claims how limit) (front_at rows) (λ front. (of_rows rows claims is, refl)))))
+  answers = next IsPlain _ (questions_at rows) (λ claims is. next IsPlain _ (format_at rows) (λ how e. next IsPlain _ (limit_at rows) (λ limit f. next IsPlain _ (threads_at rows) (λ threads g. each IsPlain (ask claims how limit threads) (front_at rows) (λ front. (of_rows rows claims is, refl))))))
 
   lists : Has IsPlain (list_at rows)
   lists = next IsPlain _ (outcomes_format_at rows) (λ how e. next IsPlain _ (limit_at rows) (λ limit f. next IsPlain _ (threads_beside how rows) (λ threads g. each IsPlain (outcomes how limit threads) (front_at rows) (λ front. (tt, refl)))))
@@ -262,7 +262,7 @@ of_runs word rows q = by (has_apart rows)
 
 -- a run's request has no claim
 runs_have_none : (q : Request) (style : ReportStyle) → style_of q ≡ Some style → HaveConditions q
-runs_have_none (ask claims how limit list) style e = absurd (cc e)
+runs_have_none (ask claims how limit threads list) style e = absurd (cc e)
 runs_have_none _ style e = tt
 
 of_request : (r : Option Request) (request : Request) → line_met r ≡ asks request → r ≡ Some request

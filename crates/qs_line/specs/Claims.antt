@@ -16,7 +16,7 @@ IsOfCondition (question.Values sum) = ⊤
 
 -- where claims are asked, each is of a condition
 abbrev pub HaveConditions : Request → Type 0
-HaveConditions (ask questions how limit front) = AllByRecursion IsOfCondition questions
+HaveConditions (ask questions how limit threads front) = AllByRecursion IsOfCondition questions
 HaveConditions _ = ⊤
 
 -- so it is for the claims of every script's text

@@ -64,7 +64,7 @@ format_of_request (play style mode chunk plan) = format_beside_report style.form
 format_of_request (syncs how plan) = how
 format_of_request (run style mode chunk) = format_beside_report style.format
 format_of_request (tally how mode chunk times) = how
-format_of_request (ask questions how limit front) = how
+format_of_request (ask questions how limit threads front) = how
 format_of_request (estimate how front) = how
 format_of_request (fronts how blocks limit orders) = how
 format_of_request (alike how limit) = how
@@ -82,7 +82,7 @@ request_of (word.Play style mode chunk plan) = play style mode chunk (plan_of pl
 request_of (word.Syncs how plan) = syncs how (plan_of plan)
 request_of (word.Run style mode chunk) = run style mode chunk
 request_of (word.Tally how mode chunk times) = tally how mode chunk times
-request_of (word.Ask questions how limit front) = ask questions.items how limit front.items
+request_of (word.Ask questions how limit threads front) = ask questions.items how limit threads front.items
 request_of (word.Estimate how front) = estimate how front.items
 request_of (word.Fronts how blocks limit orders) =
     fronts how blocks limit (map (λ (order : Vec Part Global). order.items) orders.items)
@@ -195,11 +195,13 @@ questions_at rows =
     (questions_by (asking.Claims quantifier.Ever) rows (questions_by (asking.Claims quantifier.Throughout) rows
     (questions_by (asking.Claims quantifier.Some) rows (questions_by (asking.Claims quantifier.Always) rows (Some []))))))
 
--- answers, as text or as JSON; where there are no questions, to the claims of the script
+-- answers, as text or as JSON, to so many questions side by side; where there are no questions, to the claims of the
+-- script
 abbrev pub ask_at : List Row → Option Request
 ask_at rows =
-    option_and_then (λ questions. option_and_then (λ how. option_and_then (λ limit. option_map (ask questions how limit)
-    (front_at rows)) (limit_at rows)) (format_at rows)) (questions_at rows)
+    option_and_then (λ questions. option_and_then (λ how. option_and_then (λ limit. option_and_then
+    (λ threads. option_map (ask questions how limit threads) (front_at rows)) (threads_at rows)) (limit_at rows))
+    (format_at rows)) (questions_at rows)
 
 -- by how many threads outcomes are searched for: a drawing by one alone
 abbrev pub threads_beside : OutcomesFormat → List Row → Option ℕ

@@ -80,11 +80,11 @@ fn blocks_argument<'a>(alloc: Global) -> Arg<'a>
         .required(true)
 }
 
-fn threads_option<'a>(alloc: Global) -> Arg<'a>
+fn threads_option<'a>(alloc: Global, said: &'a str) -> Arg<'a>
     ensures rule { rule_of result ≡ threads_rule }
     ensures local { result.global ≡ false }
 {
-    option(alloc, "threads", "N", help::THREADS)
+    option(alloc, "threads", "N", said)
         .value_parser(value_parser!(u32).range(1..=64))
         .help_heading(help::SEARCH)
 }
@@ -302,7 +302,7 @@ fn outcomes_command<'a>(alloc: Global) -> Result<Command<'a>, AllocError>
     let listed = search(alloc, outcomes)?
         .arg(shown_flag(alloc, "ends", help::ENDS))?
         .arg(shown_flag(alloc, "alike", help::ALIKE))?
-        .arg(threads_option(alloc))?;
+        .arg(threads_option(alloc, help::THREADS))?;
     shared(alloc, listed, help::OUTCOMES_FORMAT)
 }
 
@@ -311,7 +311,10 @@ fn ask_command<'a>(alloc: Global) -> Result<Command<'a>, AllocError>
     ensures local { IfOk result (λ command. (fields_of command).has_globals ≡ false) }
 {
     let ask = word(alloc, "ask", help::ASK, help::ASK_EXAMPLE);
-    let claimed = search(alloc, claimed(alloc, ask)?)?;
+    let claimed = search(alloc, claimed(alloc, ask)?)?.arg(threads_option(
+        alloc,
+        help::ASK_THREADS,
+    ))?;
     shared(alloc, claimed, help::FORMAT)
 }
 

@@ -160,7 +160,8 @@ Examples:
       draws how blocks lead from one configuration to the next, up to 200 of them
 
 A line `outcome 2 c1,c0` begins the second result: the block of client 1, bob, first, then that of
-client 0, ann. Below it stand the objects at the end, and each client with its variables.
+client 0, ann, as `--order @bob,@ann` plays them. Below it stand the objects at the end, and each
+client with its variables.
 Configurations, which the last line counts, are where the script can stand between two blocks.
 Clients are alike if their texts are the same but for names. `qs ask` asks about all results."
 );
@@ -258,6 +259,8 @@ pub const BLOCKS: &str = "How many blocks: 1 to 512";
 pub const LEADS: &str = "Lists that after each of several orders, joined by colons";
 
 pub const THREADS: &str = "How many threads search: 1 to 64 [default: 1]";
+
+pub const ASK_THREADS: &str = "How many questions are answered side by side: 1 to 64 [default: 1]";
 
 pub const TIMES: &str = "Runs it so often, 1 to 100000, and counts how often each end came";
 

@@ -173,12 +173,14 @@ pub enum Settings {
     },
     /// Check it, and answer whether conditions hold of all ends, of some, or throughout.
     Ask {
-        /// The conditions, and of what they are to hold; at least one.
+        /// The conditions, and of what they are to hold; none where those of the script are asked.
         questions: Vec<Question>,
         /// How the answers are written.
         format: Format,
-        /// How many configurations are looked at, at most.
+        /// How many configurations are looked at for each, at most.
         limit: u32,
+        /// How many of them are answered side by side, at most.
+        threads: u32,
         /// Whose blocks were run before.
         front: Vec<Part>,
     },
@@ -676,10 +678,11 @@ fn given_questions(
 fn ask_settings(alloc: Global, found: &ArgMatches<'_>) -> Result<Option<Settings>, AllocError>
     ensures settings { IfOk result (λ settings. option_map request_of settings ≡ ask_at (rows_of (found_of found.now))) }
 {
-    let (Some(questions), Some(format), Some(limit), Some(front)) = (
+    let (Some(questions), Some(format), Some(limit), Some(threads), Some(front)) = (
         given_questions(alloc, found)?,
         format_of(found),
         limit_of(found),
+        threads_of(found),
         given_front(alloc, found)?,
     ) else {
         return Ok(None);
@@ -688,6 +691,7 @@ fn ask_settings(alloc: Global, found: &ArgMatches<'_>) -> Result<Option<Settings
         questions,
         format,
         limit,
+        threads,
         front,
     }))
 }

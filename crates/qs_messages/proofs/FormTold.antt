@@ -21,7 +21,8 @@ end_within text (p ∷ ps) later (suc i) h = end_within text ps later i h.4
 
 pub spot_within : (text : List ℕ) (ps : List PlacedToken) (i : ℕ) (after : Type 0) (span : Span) → Stand text ps (Ok []) → IsSpot text ps i after span → span.start ≤ length text
 spot_within text ps i after span h (inl (inl e)) = rw e (span_within text ps (Ok []) i h)
-spot_within text ps i after span h (inl (inr (word, e))) = rw e (span_within text ps (Ok []) (i - 1) h)
+spot_within text ps i after span h (inl (inr (inl (arrow, e)))) = rw e (span_within text ps (Ok []) i h)
+spot_within text ps i after span h (inl (inr (inr (word, e)))) = rw e (span_within text ps (Ok []) (i - 1) h)
 spot_within text ps i after span h (inr (there, e)) = rw e (end_within text ps (Ok []) (i - 1) h)
 
 -- the second case holds where another does

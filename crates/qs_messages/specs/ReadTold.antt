@@ -1,7 +1,6 @@
 -- What is told of a text that can't be read: a diagnosis of its first token at fault, or of the place of its fault of
--- form. And what a text's tokens declare.
-use Rattle.std.specs.Prelude.{◌≡◌, ◌⊎◌, ◌↔◌, ℕ, ◌-◌, Bool, true, false, IsTrue, List, [], ◌∷◌, ◌++◌, take, Option, Some, None, Result, Ok, Err}
-use Rattle.std.specs.List.{count_by}
+-- form.
+use Rattle.std.specs.Prelude.{◌≡◌, ◌⊎◌, ◌↔◌, ℕ, ◌+◌, ◌-◌, ◌^◌, min, Bool, true, false, IsTrue, List, [], ◌∷◌, ◌++◌, take, Option, Some, None}
 use Rattle.qs_script.specs.declared.tokens.token.Token.{Token}
 use Rattle.qs_script.specs.declared.tokens.token.Token.TheVariants as t
 use Rattle.qs_script.specs.declared.tokens.lex.TokenFault.{TokenFault}
@@ -41,11 +40,20 @@ is_word (Some t.Buffer) = true
 is_word (Some t.Grid) = true
 is_word token = false
 
--- the bytes of the token at a place, or the text's end; or those of the token before, where that is such a word
+-- `->` or `<-`, which are two tokens each
+abbrev pub is_arrow : Option Token → Option Token → Bool
+is_arrow (Some t.Minus) (Some t.Greater) = true
+is_arrow (Some t.Less) (Some t.Minus) = true
+is_arrow first second = false
+
+-- the bytes of the token at a place, or the text's end; or those of an arrow that begins there; or those of the token
+-- before, where that is such a word
 abbrev pub IsAt : List ℕ → List PlacedToken → ℕ → Span → Type 0
 IsAt text tokens place span =
     (span ≡ span_in text tokens place)
-    ⊎ ((is_word (token_in tokens (place - 1)) ≡ true) × (span ≡ span_in text tokens (place - 1)))
+    ⊎ (((is_arrow (token_in tokens place) (token_in tokens (min (place + 1) (2 ^ 64 - 1))) ≡ true)
+    × (span ≡ record { start = (span_in text tokens place).start; length = 2 }))
+    ⊎ ((is_word (token_in tokens (place - 1)) ≡ true) × (span ≡ span_in text tokens (place - 1))))
 
 -- what is told of these; or, where that may be, of the place right after the token before
 abbrev pub IsSpot : List ℕ → List PlacedToken → ℕ → Type 0 → Span → Type 0
@@ -66,17 +74,3 @@ pub record IsTokenTold (text : List ℕ) (fault : TokenFault) (old new : List �
   pub span : Span
   pub there : IsFaultAt text (f.Token fault span.start)
   pub said : IsSaidAt text span old new
-
--- whether a token begins a client, or an object
-abbrev pub is_client : Token → Bool
-is_client t.Client = true
-is_client _ = false
-
-abbrev pub is_object : Token → Bool
-is_object t.Object = true
-is_object _ = false
-
--- how many clients and how many objects the tokens of a text declare
-abbrev pub declared_in : Result (List Token) TokenFault → ℕ × ℕ
-declared_in (Ok ts) = (count_by is_client ts, count_by is_object ts)
-declared_in (Err f) = (0, 0)

@@ -3,6 +3,7 @@
 mod bytes;
 mod excess;
 mod expected;
+mod filled;
 mod finding;
 mod follow;
 mod foreign;
@@ -24,6 +25,5 @@ pub(crate) use said::{joined, part};
 pub use source::Source;
 pub use spans::{PlacedToken, SpanFault, placed_tokens};
 pub(crate) use stage::token_back;
-pub use telling::{actors, tell_check, tell_read};
-pub(crate) use usual::{Usual, mistake};
+pub use telling::{tell_check, tell_read};
 pub use words::is_near;

@@ -10,3 +10,4 @@ pub mod GoingOn
 pub mod Rounds
 pub mod Answering
 pub mod Passing
+pub mod Determined

@@ -75,7 +75,7 @@ module _ (p : ProgramShape) where
   rounds_named zero = refl
   rounds_named (suc n) = named_append p (rounds_of n (actors_of p)) (actors_of p) (rounds_named n) round_named
 
-  schedule_named : (picks : List Actor) (n : ℕ) → all_named p picks ≡ true → all_named p (schedule p picks n) ≡ true
+  pub schedule_named : (picks : List Actor) (n : ℕ) → all_named p picks ≡ true → all_named p (schedule p picks n) ≡ true
   schedule_named picks n named = named_append p picks (rounds_of n (actors_of p)) named (rounds_named n)
 
 -- ---- picks that are so many rounds lead to the end

@@ -11,6 +11,7 @@ pub mod Outcomes
 pub mod Fronts
 pub mod Answers
 pub mod AsAsked
+pub mod Determined
 pub mod GoesOn
 pub mod EnoughRounds
 pub mod EveryBeginning

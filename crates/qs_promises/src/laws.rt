@@ -6,6 +6,7 @@ ghost use Rattle.qs_plain_laws.specs.progress.Steps.{StepsAreBounded};
 ghost use Rattle.qs_promises.specs.Answers.{AnswersAreOfRuns};
 ghost use Rattle.qs_promises.specs.AsIfSerial.{RunsAreAsIfSerial};
 ghost use Rattle.qs_promises.specs.AsAsked.{RunsAreAsAsked};
+ghost use Rattle.qs_promises.specs.Determined.{RunsAreDetermined};
 ghost use Rattle.qs_promises.specs.BlockAlone.{BlocksAreAsIfAlone, BlocksThatAgreeDoTheSame, OnlyTheOrderDecides};
 ghost use Rattle.qs_promises.specs.EnoughRounds.{
   DefaultRoundsAreEnough,
@@ -93,9 +94,10 @@ pub fn answers_are_of_runs()
 {}
 
 /// By the plain rules and on the optimised machine a run shows the state after exactly the picks and the rounds that
-/// were asked for, and on threads it is finished. It does nothing.
+/// were asked for, and no two such runs show different things; on threads it is finished. It does nothing.
 pub fn runs_are_as_asked()
     ensures asked { RunsAreAsAsked }
+    ensures determined { RunsAreDetermined }
 {}
 
 /// A run can't hang: by the plain rules and on the optimised machine, after any picks and rounds, it has finished, or

@@ -41,7 +41,7 @@ due_by_asked line (Some bytes) failed settings lines p due (request, is, (found,
 
 -- its format is that of the line
 with_same_format : (request : Request) (found : List Question) → format_of_request (with_claims request found) ≡ format_of_request request
-with_same_format (ask claims how limit front) found = refl
+with_same_format (ask claims how limit threads front) found = refl
 with_same_format (check how) found = refl
 with_same_format (graph how) found = refl
 with_same_format (rules style plan) found = refl
@@ -62,7 +62,7 @@ format_by_asked line known failed settings lines p (request, is, (found, whole, 
 
 -- and it takes threads where the line does
 with_same_threads : (request : Request) (found : List Question) → takes_threads (with_claims request found) ≡ takes_threads request
-with_same_threads (ask claims how limit front) found = refl
+with_same_threads (ask claims how limit threads front) found = refl
 with_same_threads (check how) found = refl
 with_same_threads (graph how) found = refl
 with_same_threads (rules style plan) found = refl
@@ -167,7 +167,7 @@ module _ {S : Type 0} (Answers : S → ℕ → Bool → S → Type 0) (before af
   started_for (rules style plan) found known failed lines p due read asked = tt
   started_for (play style mode size plan) found known failed lines p due read asked = tt
   started_for (syncs how plan) found known failed lines p due read asked = tt
-  started_for (ask claim how limit front) found known failed lines p due read asked = tt
+  started_for (ask claim how limit threads front) found known failed lines p due read asked = tt
   started_for (estimate how front) found known failed lines p due read asked = tt
   started_for (fronts how blocks limit orders) found known failed lines p due read asked = tt
   started_for (alike how limit) found known failed lines p due read asked = tt
@@ -199,7 +199,7 @@ module _ {S : Type 0} (Answers : S → ℕ → Bool → S → Type 0) (before af
   started_unbegun (asks (rules style plan)) known due is = tt
   started_unbegun (asks (play style mode size plan)) known due is = tt
   started_unbegun (asks (syncs how plan)) known due is = tt
-  started_unbegun (asks (ask claim how limit front)) known due is = tt
+  started_unbegun (asks (ask claim how limit threads front)) known due is = tt
   started_unbegun (asks (estimate how front)) known due is = tt
   started_unbegun (asks (fronts how blocks limit orders)) known due is = tt
   started_unbegun (asks (alike how limit)) known due is = tt

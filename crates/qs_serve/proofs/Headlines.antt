@@ -160,7 +160,7 @@ by_request (check how) style text bytes old new s e script accepted is written =
 by_request (graph how) style text bytes old new s e script accepted is written = absurd (cc e)
 by_request (syncs how plan) style text bytes old new s e script accepted is written = absurd (cc e)
 by_request (tally how mode size times) style text bytes old new s e script accepted is written = absurd (cc e)
-by_request (ask claim how limit front) style text bytes old new s e script accepted is written = absurd (cc e)
+by_request (ask claim how limit threads front) style text bytes old new s e script accepted is written = absurd (cc e)
 by_request (estimate how front) style text bytes old new s e script accepted is written = absurd (cc e)
 by_request (fronts how blocks limit orders) style text bytes old new s e script accepted is written = absurd (cc e)
 by_request (alike how limit) style text bytes old new s e script accepted is written = absurd (cc e)
@@ -169,7 +169,7 @@ by_request (outcomes how limit threads front) style text bytes old new s e scrip
 -- a request for a run is the same with any claims
 with_no_claims : (request : Request) (style : ReportStyle) (found : List Question) → style_of request ≡ Some style
     → with_claims request found ≡ request
-with_no_claims (ask claims how limit front) style found e = absurd (cc e)
+with_no_claims (ask claims how limit threads front) style found e = absurd (cc e)
 with_no_claims (check how) style found e = refl
 with_no_claims (graph how) style found e = refl
 with_no_claims (rules own plan) style found e = refl
@@ -296,11 +296,11 @@ true_answers p sound how limit front clients named (q ∷ questions) (own, have)
   e,
 )
 
-by_answers : (claims : List Question) (how : Format) (limit : ℕ) (front : List Part) (hold : Bool) (text bytes : List ℕ)
+by_answers : (claims : List Question) (how : Format) (limit threads : ℕ) (front : List Part) (hold : Bool) (text bytes : List ℕ)
     (old new : Option (List ℕ)) (s : List Item) → IsScriptText text s → fault_of s ≡ None
-    → AllByRecursion IsOfCondition claims → IsAnswerBy (ask claims how limit front) (program_of_items s) hold bytes
+    → AllByRecursion IsOfCondition claims → IsAnswerBy (ask claims how limit threads front) (program_of_items s) hold bytes
     → Appends old new bytes → AreAnsweredTruly claims how front hold text old new
-by_answers claims how limit front hold text bytes old new s script accepted have (some, known, is) written =
+by_answers claims how limit threads front hold text bytes old new s script accepted have (some, known, is) written =
     let who = named (clients_of (program_of_items s) front) _ is in
     record {
       script = s;
@@ -311,18 +311,18 @@ by_answers claims how limit front hold text bytes old new s script accepted have
       answers = true_answers (program_of_items s) (sound_script text s script accepted) how limit front who.0 who.1 claims have hold bytes who.2;
     }
 
-answered_due : (claims : List Question) (how shown : Format) (details : List ℕ) (limit : ℕ) (front : List Part) (hold : Bool) (text : List ℕ)
+answered_due : (claims : List Question) (how shown : Format) (details : List ℕ) (limit threads : ℕ) (front : List Part) (hold : Bool) (text : List ℕ)
     (old new : Option (List ℕ)) (due : Due) → AllByRecursion IsOfCondition claims
-    → (if hold then 0 else 1) ≡ due_status due → IsDueOfWhole (ask claims how limit front) text due
+    → (if hold then 0 else 1) ≡ due_status due → IsDueOfWhole (ask claims how limit threads front) text due
     → Appends old new (due_text shown details due) → AreAnsweredTruly claims how front hold text old new
-answered_due claims how shown details limit front true text old new (Text bytes) have e (s, script, accepted, is) written =
-    by_answers claims how limit front true text bytes.items old new s script accepted have is written
-answered_due claims how shown details limit front true text old new (No bytes) have e is written = absurd (cc e)
-answered_due claims how shown details limit front true text old new (Refused f) have e is written = absurd (zero_is_none f (sym e))
-answered_due claims how shown details limit front false text old new (Text bytes) have e is written = absurd (cc e)
-answered_due claims how shown details limit front false text old new (No bytes) have e (s, script, accepted, is) written =
-    by_answers claims how limit front false text bytes.items old new s script accepted have is written
-answered_due claims how shown details limit front false text old new (Refused f) have e is written = absurd (one_is_none f (sym e))
+answered_due claims how shown details limit threads front true text old new (Text bytes) have e (s, script, accepted, is) written =
+    by_answers claims how limit threads front true text bytes.items old new s script accepted have is written
+answered_due claims how shown details limit threads front true text old new (No bytes) have e is written = absurd (cc e)
+answered_due claims how shown details limit threads front true text old new (Refused f) have e is written = absurd (zero_is_none f (sym e))
+answered_due claims how shown details limit threads front false text old new (Text bytes) have e is written = absurd (cc e)
+answered_due claims how shown details limit threads front false text old new (No bytes) have e (s, script, accepted, is) written =
+    by_answers claims how limit threads front false text bytes.items old new s script accepted have is written
+answered_due claims how shown details limit threads front false text old new (Refused f) have e is written = absurd (one_is_none f (sym e))
 
 -- a status of yes or no is not that of a fault, and not that of a failed write
 no_fault : (holds : Bool) (f : Fault) → (if holds then 0 else 1) ≡ due_status (Refused f) → ⊥
@@ -346,17 +346,17 @@ asked_have (claim ∷ claims) found own others = own
 
 pub answers : (words : List (List ℕ)) (before after : Reading) (old new : Option (List ℕ)) (failed : Bool) (status : ℕ)
     → Serves words before after old new failed status → AreAnswersTrue words before.remaining old new status
-answers words before after old new failed status (due, how, details, is_due, formatted, front, ending) claims shown limit clients line holds e =
+answers words before after old new failed status (due, how, details, is_due, formatted, front, ending) claims shown limit threads clients line holds e =
     let all = done _ failed status (due_status due) ending (no_four holds status e) in
     let none = not_refused (if holds then 0 else 1) due (no_fault holds) (sym e ∙ all.1) in
     let of_line = subst (λ l. IsDue l before.remaining after.has_failed due) line is_due in
     of_known before.remaining _ _
-    (λ bytes is. answered_due (questions_or claims (claims_of_script (take longest bytes))) shown how details limit clients holds
+    (λ bytes is. answered_due (questions_or claims (claims_of_script (take longest bytes))) shown how details limit threads clients holds
     (take longest bytes) old new due
-    (asked_have claims (claims_of_script (take longest bytes)) (claims_have_conditions words (ask claims shown limit clients) line)
+    (asked_have claims (claims_of_script (take longest bytes)) (claims_have_conditions words (ask claims shown limit threads clients) line)
     (found_have (claims_in (take longest bytes)) (script_claims_have_conditions (take longest bytes))))
     (sym e ∙ all.1) is all.0)
-    (text_due (ask claims shown limit clients) before.remaining after.has_failed due of_line none)
+    (text_due (ask claims shown limit threads clients) before.remaining after.has_failed due of_line none)
 
 -- all outcomes, as they were asked for
 all_outcomes : (how : OutcomesFormat) (limit : ℕ) (clients : List ℕ) (p : ProgramShape) (bytes : List ℕ)

@@ -1,5 +1,6 @@
 pub mod AskedDues
 pub mod ClaimsDues
+pub mod Crossing
 pub mod Dues
 pub mod FrontsDues
 pub mod Headlines

@@ -436,7 +436,7 @@ IsOfProgram p (question.Values sum) = first_unknown_of p sum ≡ None
 
 -- the answers to a request that asks something, and that of what the program has
 abbrev pub IsAnswerBy : Request → ProgramShape → (holds : Bool) → List ℕ → Type 0
-IsAnswerBy (ask questions how limit front) p holds text =
+IsAnswerBy (ask questions how limit threads front) p holds text =
     (questions ≢ []) × AllByRecursion (IsOfProgram p) questions
     × IsOkAnd (clients_of p front) (λ clients. AreAnswersTo how p limit clients questions holds text)
 IsAnswerBy _ p holds text = ⊥
@@ -469,7 +469,7 @@ IsTextBy (tally how mode size times) lines p text =
     (t : TallyShape) × IsTallyBy p mode size times most_numbered t × (text ≡ tally_in how p times t)
 IsTextBy (estimate how front) lines p text =
     IsOkAnd (clients_of p front) (λ clients. IsEstimateText how p clients text)
-IsTextBy (ask questions how limit front) lines p text = IsAnswerBy (ask questions how limit front) p true text
+IsTextBy (ask questions how limit threads front) lines p text = IsAnswerBy (ask questions how limit threads front) p true text
 IsTextBy (fronts how blocks limit orders) lines p text = AreFrontsTexts how p blocks orders text
 IsTextBy (alike how limit) lines p text = IsAlikeText how p limit text
 IsTextBy (outcomes how limit threads front) lines p text =
@@ -486,7 +486,7 @@ abbrev pub IsUnnamedBy : Request → ProgramShape → Type 0
 IsUnnamedBy (rules style plan) p = IsUnnamed plan p
 IsUnnamedBy (play style mode size plan) p = IsUnnamed plan p
 IsUnnamedBy (syncs how plan) p = IsUnnamed plan p
-IsUnnamedBy (ask questions how limit front) p =
+IsUnnamedBy (ask questions how limit threads front) p =
     (questions ≡ []) ⊎ (HasOne (λ q. ¬ IsOfProgram p q) questions ⊎ IsErr (clients_of p front))
 IsUnnamedBy (estimate how front) p = IsErr (clients_of p front)
 IsUnnamedBy (fronts how blocks limit orders) p = HasOne (λ order. IsErr (clients_of p order)) orders
@@ -566,7 +566,7 @@ AreUnlistedAlike p limit outcomes_fault.Memory = Unit {0}
 
 -- why outcomes that a request asks for are not listed
 abbrev pub IsUnlistedBy : Request → ProgramShape → OutcomesFault → Type 0
-IsUnlistedBy (ask questions how limit front) p f =
+IsUnlistedBy (ask questions how limit threads front) p f =
     IsOkAnd (clients_of p front) (λ clients. HasOne (λ q. IsUnanswered p q limit clients f) questions)
 IsUnlistedBy (estimate how front) p f = IsOkAnd (clients_of p front) (λ clients. IsUnestimated p clients f)
 IsUnlistedBy (fronts how blocks limit orders) p f =
@@ -628,6 +628,13 @@ AreAnswersDue how p questions limit clients (Refused (fault.Outcomes f)) =
     HasOne (λ q. IsUnanswered p q limit clients f) questions
 AreAnswersDue how p questions limit clients (Refused _) = ⊥
 
+-- the answers to some questions, and behind them those to others
+abbrev pub IsJoinedDue : Due → Due → Due → Type 0
+IsJoinedDue one other due =
+    (how : Format) (p : ProgramShape) (first second : List Question) (limit : ℕ) (clients : List ℕ)
+    → AreAnswersDue how p first limit clients one → AreAnswersDue how p second limit clients other
+    → AreAnswersDue how p (first ++ second) limit clients due
+
 -- an answer in parts: its text, and whether it is yes
 abbrev pub HasParts : Due → Result (Vec ℕ Global × Bool) Fault → Type 0
 HasParts due (Ok part) = due ≡ (if part.1 then Text part.0 else No part.0)
@@ -672,7 +679,7 @@ AreLinesFor (play style mode size plan) found lines = ⊤
 AreLinesFor (syncs how plan) found lines = ⊤
 AreLinesFor (run style mode size) found lines = ⊤
 AreLinesFor (tally how mode size times) found lines = ⊤
-AreLinesFor (ask questions how limit front) found lines = ⊤
+AreLinesFor (ask questions how limit threads front) found lines = ⊤
 AreLinesFor (estimate how front) found lines = ⊤
 AreLinesFor (fronts how blocks limit orders) found lines = ⊤
 AreLinesFor (alike how limit) found lines = ⊤
@@ -712,7 +719,7 @@ questions_or (q ∷ questions) of_script = q ∷ questions
 
 -- a request with the claims of a script, where it asks questions and has none
 abbrev pub with_claims : Request → List Question → Request
-with_claims (ask questions how limit front) of_script = ask (questions_or questions of_script) how limit front
+with_claims (ask questions how limit threads front) of_script = ask (questions_or questions of_script) how limit threads front
 with_claims request of_script = request
 
 -- what a request makes of a text: where it asks questions and has none, the claims of the text are asked

@@ -8,7 +8,7 @@ use Rattle.qs_conditions.specs.Conditions.{Tree, steps_of}
 use Rattle.qs_conditions.specs.declared.claim.Claim.{Claim}
 use Rattle.qs_dot.specs.ChartDot.{chart_text}
 use Rattle.qs_dot.specs.Charts.{ChartShape}
-use Rattle.qs_line.specs.audit.Line.{Request, alike, ask, asks, by_schedule, fronts, outcomes, rules, tally}
+use Rattle.qs_line.specs.audit.Line.{Request, alike, ask, asks, by_schedule, fronts, outcomes, play, rules, tally}
 use Rattle.qs_line.specs.Line.{line_in}
 use Rattle.qs_line.specs.audit.Named.{clients_of}
 use Rattle.qs_line.specs.declared.line.Format.{Format}
@@ -88,8 +88,8 @@ pub record AreAnsweredTruly (questions : List Question) (how : Format) (front : 
 -- no to one, and what was written says so truly.
 abbrev pub AreAnswersTrue : List (List ℕ) → Option (List ℕ) → (old new : Option (List ℕ)) → (status : ℕ) → Type 0
 AreAnswersTrue words known old new status =
-    (questions : List Question) (how : Format) (limit : ℕ) (front : List Part)
-    → line_in words ≡ asks (ask questions how limit front) → (hold : Bool) → status ≡ (if hold then 0 else 1)
+    (questions : List Question) (how : Format) (limit threads : ℕ) (front : List Part)
+    → line_in words ≡ asks (ask questions how limit threads front) → (hold : Bool) → status ≡ (if hold then 0 else 1)
     → IfSome known (λ bytes. AreAnsweredTruly (questions_or questions (claims_of_script (take longest bytes))) how front hold
     (take longest bytes) old new)
 
@@ -145,11 +145,17 @@ AreListsTrue words known old new =
     (request : Request) → line_in words ≡ asks request
     → IfSome known (λ bytes. IsTrueList request (take longest bytes) old new)
 
--- Under the plain rules two texts that report a run of one script, by the same picks and rounds and without lines of steps
--- or of queues, are the same.
+-- a run by the plain rules or in the optimised machine, by picks and rounds
+abbrev pub IsBySchedule : Request → Type 0
+IsBySchedule (rules style (by_schedule rounds picks)) = ⊤
+IsBySchedule (play style mode size (by_schedule rounds picks)) = ⊤
+IsBySchedule _ = ⊥
+
+-- Two texts that report such a run of one script, as one line asks for it and without lines of steps or of queues, are
+-- the same.
 abbrev pub ReportsAreUnique : Type 0
 ReportsAreUnique =
-    (style : ReportStyle) (rounds : ℕ) (picks : List Part) (text old one other : List ℕ)
-    → style.steps ≡ false → style.queues ≡ false
-    → IsReported (rules style (by_schedule rounds picks)) style text (Some old) (Some one)
-    → IsReported (rules style (by_schedule rounds picks)) style text (Some old) (Some other) → one ≡ other
+    (request : Request) (style : ReportStyle) (text old one other : List ℕ)
+    → IsBySchedule request → style.steps ≡ false → style.queues ≡ false
+    → IsReported request style text (Some old) (Some one) → IsReported request style text (Some old) (Some other)
+    → one ≡ other

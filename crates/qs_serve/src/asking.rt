@@ -144,6 +144,7 @@ fn with_claims(alloc: Global, settings: Settings, text: &[u8]) -> Result<Setting
             questions,
             format,
             limit,
+            threads,
             front,
         } => {
             let questions = if questions.is_empty() {
@@ -155,6 +156,7 @@ fn with_claims(alloc: Global, settings: Settings, text: &[u8]) -> Result<Setting
                 questions,
                 format,
                 limit,
+                threads,
                 front,
             })
         }

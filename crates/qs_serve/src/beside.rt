@@ -61,7 +61,7 @@ pub(crate) fn tell_beside<'a, W: Write>(
                     err,
                 );
                 let warns = asked.warnings || is_terminal;
-                tell_warnings(alloc, text, &it.program, warns, err);
+                tell_warnings(alloc, words, text, &it.program, warns, err);
             }
         }
     }

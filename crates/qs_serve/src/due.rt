@@ -1,38 +1,32 @@
 // What a run has to write.
 
-ghost use Rattle.std.specs.Prelude.{◌≡◌, ◌⊎◌, ◌&&◌, [], false, true, IfSome};
+ghost use Rattle.std.specs.Prelude.{◌≡◌, ◌⊎◌, [], false, true};
 ghost use Rattle.qs_report.specs.declared.faults.Fault.TheVariants as fault;
 ghost use Rattle.qs_line.specs.declared.line.OutcomesFormat.TheVariants as outcomes_format;
-ghost use Rattle.qs_line.specs.audit.Line.{ask, check, graph, outcomes, run};
+ghost use Rattle.qs_line.specs.audit.Line.{check, graph, outcomes, run};
 ghost use Rattle.qs_line.specs.Line.{request_of};
-ghost use Rattle.qs_line.specs.declared.question.Question.TheVariants as Question;
-ghost use Rattle.qs_serve.specs.Due.{AreAnswersDue, HasAsked, HasParts, IsAnswerAfterDue, IsAnswered, IsDueAfter, IsDueOfFault, IsDueOfList, IsDueOfProgram, IsDueWithoutThreads, IsOfProgram, IsRefusedBy, IsListOf, IsTextOf, IsOutOfMemory, due_status, listed_as};
+ghost use Rattle.qs_serve.specs.Due.{HasAsked, IsDueAfter, IsDueOfFault, IsDueOfList, IsDueOfProgram, IsDueWithoutThreads, IsRefusedBy, IsListOf, IsTextOf, IsOutOfMemory, due_status, listed_as};
 ghost use Rattle.std.specs.List.{AllByRecursion};
 ghost use Rattle.qs_outcomes.specs.Outcomes.{HasPlaces};
-ghost use Rattle.qs_standings.specs.Lists.{HasOne};
 
 use crate::estimates::due_of_estimate;
-use crate::fronts::{add, due_of_fronts};
+use crate::fronts::due_of_fronts;
 use crate::plays::{due_of_play, due_of_rules};
+use crate::questions::{Asked, due_of_questions, due_of_questions_by_threads};
 use crate::reports::due_of_outcome;
 use crate::searches::{Search, due_by_threads, due_of_alike};
 use crate::syncs::due_of_syncs;
-use crate::values::due_of_values_after;
 use qs_check::Program;
 use qs_chunk::ChunkSize;
-use qs_conditions::Claim;
 use qs_dot::node_lines::NodeLines;
 use qs_dot::{MOST_PLACES, chart_dot, dot_text};
-use qs_json::{answer_json, counts_json, ends_json, graph_json, outcomes_json};
+use qs_json::{counts_json, ends_json, graph_json, outcomes_json};
 use qs_line::{
-    Format, GraphFormat, LineFault, ListFault, OutcomesFormat, Part, Question, ReportStyle,
-    Settings, clients_of,
+    Format, GraphFormat, LineFault, ListFault, OutcomesFormat, Part, ReportStyle, Settings,
+    clients_of,
 };
-use qs_outcomes::{AllOutcomes, Answer, Watcher, outcomes_watched};
-use qs_questions::{answer, first_unknown, first_unknown_in_sum};
-use qs_report::{
-    Fault, answer_text, check_text, ends_text, graph_text, is_yes, outcomes_text, status,
-};
+use qs_outcomes::{AllOutcomes, Watcher, outcomes_watched};
+use qs_report::{Fault, check_text, ends_text, graph_text, outcomes_text, status};
 use qs_run::{FreeGate, Starter, execute_with};
 use qs_syncset::Mode;
 use std::alloc::{AllocError, Global};
@@ -126,182 +120,6 @@ pub(crate) fn due_of_run<S: Starter, T: Threads + Wait + Sync>(
         Ok(outcome) => due_of_outcome(alloc, program, style, outcome),
         Err(fault) => Due::Refused(Fault::Run(fault)),
     }
-}
-
-// The answer to a claim, in a format.
-fn due_of_answer(
-    alloc: Global,
-    program: &Program,
-    claim: &Claim,
-    format: Format,
-    answer: Answer,
-) -> Due
-    requires places { IfSome answer.witness (HasPlaces program.now) }
-    ensures due { IsAnswered format program.now claim.now answer result }
-{
-    let text = match format {
-        Format::Text => answer_text(alloc, program, claim.line, claim.quantifier, &answer),
-        Format::Json => answer_json(alloc, program, claim.line, claim.quantifier, &answer),
-    };
-    let holds = is_yes(claim.quantifier, &answer);
-    drop(answer);
-    match text {
-        Ok(bytes) if holds => Due::Text(bytes),
-        Ok(bytes) => Due::No(bytes),
-        Err(_) => Due::Refused(Fault::Memory),
-    }
-}
-
-// The answer to a claim after the blocks of some clients, found over so many configurations at most; a watcher is told
-// of each.
-fn due_of_claim_after<P: Watcher>(
-    alloc: Global,
-    program: &Program,
-    claim: &Claim,
-    format: Format,
-    limit: u32,
-    clients: &[u8],
-    watcher: &mut P,
-) -> Due
-    ensures not_input { ¬ IsRefusedBy fault.Input result }
-    ensures due { IsAnswerAfterDue format program.now (Question.Claim claim.now) limit clients.now result }
-{
-    match answer(alloc, program, claim, clients, limit, watcher) {
-        Ok(answer) => due_of_answer(alloc, program, claim, format, answer),
-        Err(fault) => Due::Refused(Fault::Outcomes(fault)),
-    }
-}
-
-// What is due of a question after the blocks of some clients, found over so many configurations at most; a watcher is
-// told of each.
-fn due_of_question_after<P: Watcher>(
-    alloc: Global,
-    program: &Program,
-    question: &Question,
-    format: Format,
-    limit: u32,
-    clients: &[u8],
-    watcher: &mut P,
-) -> Due
-    ensures not_input { ¬ IsRefusedBy fault.Input result }
-    ensures due { IsAnswerAfterDue format program.now question.now limit clients.now result }
-{
-    match question {
-        Question::Claim(claim) => {
-            due_of_claim_after(alloc, program, claim, format, limit, clients, watcher)
-        }
-        Question::Values(sum) => {
-            due_of_values_after(alloc, program, sum, format, limit, clients, watcher)
-        }
-    }
-}
-
-// An answer in parts: its text, and whether it is yes.
-fn parts_of(due: Due) -> Result<(Vec<u8>, bool), Fault>
-    ensures parts { HasParts due result }
-{
-    match due {
-        Due::Text(text) => Ok((text, true)),
-        Due::No(text) => Ok((text, false)),
-        Due::Refused(fault) => Err(fault),
-    }
-}
-
-// Whether both are so.
-fn both(one: bool, other: bool) -> bool
-    ensures both { result ≡ (one && other) }
-{
-    one && other
-}
-
-// Whether a question asks for what the program does not have.
-fn is_unknown(program: &Program, question: &Question) -> bool
-    ensures known { result ≡ false → IsOfProgram program.now question.now }
-    ensures unknown { result ≡ true → ¬ IsOfProgram program.now question.now }
-{
-    match question {
-        Question::Claim(claim) => first_unknown(&claim.condition, program).is_some(),
-        Question::Values(sum) => first_unknown_in_sum(sum, program).is_some(),
-    }
-}
-
-// Whether some question asks for what the program does not have.
-fn has_unknown(program: &Program, questions: &[Question]) -> bool
-    ensures known { result ≡ false → AllByRecursion (IsOfProgram program.now) questions.now }
-    ensures unknown { result ≡ true → HasOne (λ question. ¬ IsOfProgram program.now question) questions.now }
-{
-    for question in questions {
-        if is_unknown(program, question) {
-            return true;
-        }
-    }
-    false
-}
-
-// The answers to questions after the blocks of some clients, one behind another, each found over so many configurations
-// at most; a watcher is told of each.
-fn due_of_questions_after<P: Watcher>(
-    alloc: Global,
-    program: &Program,
-    questions: &[Question],
-    format: Format,
-    limit: u32,
-    clients: &[u8],
-    watcher: &mut P,
-) -> Due
-    ensures not_input { ¬ IsRefusedBy fault.Input result }
-    ensures due { AreAnswersDue format program.now questions.now limit clients.now result }
-{
-    let mut text = Vec::new(alloc);
-    let mut hold = true;
-    for question in questions {
-        let due = due_of_question_after(alloc, program, question, format, limit, clients, watcher);
-        match parts_of(due) {
-            Ok((own, holds)) => {
-                hold = both(hold, holds);
-                let Ok(()) = add(&mut text, own) else {
-                    return Due::Refused(Fault::Memory);
-                };
-            }
-            Err(fault) => return Due::Refused(fault),
-        }
-    }
-    if hold { Due::Text(text) } else { Due::No(text) }
-}
-
-// The answers to questions after the blocks of the clients that a list names. A question that asks for what the program
-// does not have is refused, and so is to ask nothing.
-fn due_of_questions<P: Watcher>(
-    alloc: Global,
-    program: &Program,
-    questions: &[Question],
-    format: Format,
-    limit: u32,
-    front: &[Part],
-    watcher: &mut P,
-) -> Due
-    ensures not_input { ¬ IsRefusedBy fault.Input result }
-    ensures due { IsOutOfMemory result ⊎ IsDueOfProgram (ask questions.now format limit front.now) [] program.now result }
-{
-    if questions.is_empty() {
-        return Due::Refused(Fault::CommandLine);
-    }
-    if has_unknown(program, questions) {
-        return Due::Refused(Fault::CommandLine);
-    }
-    let clients = match clients_of(alloc, program, front) {
-        Ok(clients) => clients,
-        Err(fault) => return due_of_list(fault),
-    };
-    due_of_questions_after(
-        alloc,
-        program,
-        questions,
-        format,
-        limit,
-        clients.as_slice(),
-        watcher,
-    )
 }
 
 // The list of all outcomes, or of their ends alone, in a format.
@@ -421,16 +239,17 @@ pub(crate) fn due_of_program<P: Watcher>(
             questions,
             format,
             limit,
+            threads,
             front,
-        } => due_of_questions(
-            alloc,
-            program,
-            questions.as_slice(),
-            *format,
-            *limit,
-            front.as_slice(),
-            watcher,
-        ),
+        } => {
+            let asked = Asked {
+                questions: questions.as_slice(),
+                format: *format,
+                limit: *limit,
+                threads: *threads,
+            };
+            due_of_questions(alloc, program, asked, front.as_slice(), watcher)
+        }
         Settings::Fronts {
             format,
             blocks,
@@ -483,6 +302,21 @@ pub(crate) fn due_of_search<T: Threads + Sync, P: Watcher>(
                 front: front.as_slice(),
             };
             due_by_threads(rt, alloc, program, *format, search, watcher)
+        }
+        Settings::Ask {
+            questions,
+            format,
+            limit,
+            threads,
+            front,
+        } => {
+            let asked = Asked {
+                questions: questions.as_slice(),
+                format: *format,
+                limit: *limit,
+                threads: *threads,
+            };
+            due_of_questions_by_threads(rt, alloc, program, asked, front.as_slice(), watcher)
         }
         _ => due_of_program(alloc, settings, program, lines, watcher),
     }

@@ -14,6 +14,7 @@ mod notes;
 mod output;
 mod plays;
 mod progress;
+mod questions;
 mod reports;
 mod run_report;
 mod searches;

@@ -1,19 +1,17 @@
 //! What lines of text and objects of JSON have in common, and the pieces of the objects.
 
-ghost use Rattle.std.specs.Prelude.{◌≡◌, ◌++◌, OnOk, codes};
+ghost use Rattle.std.specs.Prelude.{◌≡◌, ◌++◌, OnOk};
 ghost use Rattle.qs_program.specs.audit.Program.{client_at, object_at};
-ghost use Rattle.qs_json.specs.audit.Pieces.{comma_at, field, quoted};
-ghost use Rattle.qs_json.specs.audit.RunJson.{fate_json, reply_json};
-ghost use Rattle.qs_objects.specs.audit.Operations.{word};
-ghost use Rattle.qs_text.specs.audit.Words.{args_text};
+ghost use Rattle.qs_json.specs.audit.Pieces.{comma_at, quoted};
 ghost use Rattle.qs_steps.specs.Forms.{at_field, between as between_two, block_fields, does_json, name_in, of_field, only_json, request_in, run_json, ticket_field, ticket_json};
 
 use crate::wanted::Form;
 use itoa::Buffer;
+use qs_json::put_event;
 use qs_objects::{Request, Ticket};
 use qs_program::Program;
 use qs_text::fates::Fate;
-use qs_text::{client_name, object_name, put, put_all, put_args, put_number, put_whole_request};
+use qs_text::{client_name, object_name, put, put_all, put_whole_request};
 use std::alloc::AllocError;
 
 /// What stands between two of several.
@@ -148,40 +146,6 @@ pub(crate) fn put_of(out: &mut Vec<u8>, program: &Program, client: u8) -> Result
     put_client_name(out, program, b",\"of\":", client)
 }
 
-// The arguments of a request, as a field.
-fn put_arguments(out: &mut Vec<u8>, args: &[i64]) -> Result<(), AllocError>
-    ensures ok { OnOk result (out.new.items ≡ out.old.items ++ field (codes "arguments") (codes "[" ++ args_text args.now ++ codes "]")) }
-{
-    put(out, b",\"arguments\":[")?;
-    put_args(out, args)?;
-    put(out, b"]")
-}
-
-// A query's reply as a field; a command has none.
-fn put_reply_field(out: &mut Vec<u8>, reply: Option<i64>) -> Result<(), AllocError>
-    ensures ok { OnOk result (out.new.items ≡ out.old.items ++ field (codes "reply") (reply_json reply)) }
-{
-    match reply {
-        None => put(out, b",\"reply\":null"),
-        Some(value) => {
-            put(out, b",\"reply\":")?;
-            put_number(out, value)
-        }
-    }
-}
-
-// What became of a request, as two fields.
-fn fate_words(fate: Option<Fate>) -> &'static [u8]
-    ensures words { result.now ≡ fate_json fate }
-{
-    match fate {
-        None => b",\"refused\":null,\"none\":false",
-        Some(Fate::Done) => b",\"refused\":false,\"none\":false",
-        Some(Fate::Refused) => b",\"refused\":true,\"none\":false",
-        Some(Fate::NoValue) => b",\"refused\":false,\"none\":true",
-    }
-}
-
 /// Puts a request as an object, with its reply and with what became of it.
 pub(crate) fn put_run(
     out: &mut Vec<u8>,
@@ -192,12 +156,7 @@ pub(crate) fn put_run(
 ) -> Result<(), AllocError>
     ensures ok { OnOk result (out.new.items ≡ out.old.items ++ run_json program.now request.now reply fate) }
 {
-    put_object_name(out, program, b"{\"object\":", request.object)?;
-    put_string(out, b",\"operation\":", request.op.word())?;
-    put_arguments(out, request.args.as_slice())?;
-    put_reply_field(out, reply)?;
-    put(out, fate_words(fate))?;
-    put(out, b"}")
+    put_event(out, program, request, reply, fate)
 }
 
 /// Puts a request that its object has not run yet.

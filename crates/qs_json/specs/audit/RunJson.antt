@@ -8,7 +8,6 @@ use Rattle.qs_objects.specs.declared.held.Ticket.{Ticket}
 use Rattle.qs_objects.specs.declared.held.Event.{Event}
 use Rattle.qs_objects.specs.declared.object.Kind.{Kind}
 use Rattle.qs_objects.specs.declared.object.Kind.TheVariants as kinds
-use Rattle.qs_program.specs.audit.Values.{Locals}
 use Rattle.qs_program.specs.audit.Program.{ProgramShape, object_at, client_at}
 use Rattle.qs_played.specs.audit.Played.{Played}
 use Rattle.qs_text.specs.audit.fates.Fates.{trace_fates}
@@ -18,7 +17,8 @@ use Rattle.qs_sync_counts.specs.declared.sync_counts.SyncCount.{SyncCount}
 use Rattle.qs_text.specs.audit.Words.{first_ticket, no_state}
 use Rattle.qs_objects.specs.audit.Operations.{word}
 use Rattle.qs_json.specs.audit.Pieces.{array, array_up_to, field, first_field, quoted, truth}
-use Rattle.qs_json.specs.audit.Variables.{clients_or_null}
+use Rattle.qs_json.specs.audit.Replay.{variables_in}
+use Rattle.qs_json.specs.audit.Variables.{client_with}
 
 -- a query's reply; a command has none
 abbrev pub reply_json : Option ℤ → List ℕ
@@ -114,11 +114,11 @@ abbrev pub object_json : ProgramShape → Played → ℕ → List ℕ
 object_json p run h = state_json (object_at p h).name (slice_index_or run.states h no_state)
 
 -- the tickets in their order, each with its trace, and with its counts where they are asked for; the objects' states,
--- the clients' variables at the end, the number of syncs, and whether the run is finished
-abbrev pub run_json : (counts : Bool) → ProgramShape → Played → Option (ℕ → Locals) → List ℕ
-run_json counts p run locals =
+-- the clients' variables, the number of syncs, and whether the run is finished
+abbrev pub run_json : (counts : Bool) → ProgramShape → Played → List ℕ
+run_json counts p run =
     first_field (codes "order") (array_up_to (length run.order) (ticket_json counts p run))
     ++ field (codes "states") (array_up_to (length run.states) (object_json p run))
-    ++ field (codes "clients") (clients_or_null p locals)
+    ++ field (codes "clients") (array_up_to (length p.clients) (client_with p (variables_in p run)))
     ++ field (codes "syncs") (decimal run.syncs)
     ++ field (codes "finished") (truth run.finished) ++ codes "}\n"

@@ -1,5 +1,5 @@
 -- Clients with their variables.
-use Rattle.std.specs.Prelude.{ℕ, pos, List, [], ◌++◌, codes, length, slice_index_or, Option, Some, None}
+use Rattle.std.specs.Prelude.{ℕ, pos, List, [], ◌++◌, codes, length, slice_index_or}
 use Rattle.std.specs.Fmt.{signed_decimal}
 use Rattle.qs_program.specs.audit.Numbering.{Name}
 use Rattle.qs_program.specs.audit.Program.{ProgramShape, client_at}
@@ -21,8 +21,3 @@ abbrev pub client_with : ProgramShape → (ℕ → Locals) → ℕ → List ℕ
 client_with p locals c =
     first_field (codes "client") (quoted (client_at p c).name)
     ++ variables_json (client_at p c).variables (locals c) ++ codes "}"
-
--- all clients with their variables; null where nothing is said of them
-abbrev pub clients_or_null : ProgramShape → Option (ℕ → Locals) → List ℕ
-clients_or_null p None = codes "null"
-clients_or_null p (Some locals) = array_up_to (length p.clients) (client_with p locals)

@@ -107,9 +107,9 @@ claimed_app app =
     (condition_rule (codes "never"))) (condition_rule (codes "values"))
 
 -- `ask [--always COND].. [--some COND].. [--throughout COND].. [--ever COND].. [--never COND].. [--values SUM]..
--- [--limit N] [--after LIST] [--format F] [--warn]`
+-- [--limit N] [--after LIST] [--threads N] [--format F] [--warn]`
 abbrev pub ask_app : App
-ask_app = shared_app (search_app (claimed_app (new_app (codes "ask"))))
+ask_app = shared_app (with_rule (search_app (claimed_app (new_app (codes "ask")))) threads_rule)
 
 -- `K`, of 1 to 512, which has to be there
 abbrev pub blocks_rule : Rule

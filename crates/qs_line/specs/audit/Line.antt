@@ -41,7 +41,7 @@ pub data Request : Type 0 where
   syncs : Format → PlanShape → Request
   run : ReportStyle → Mode → ℕ → Request
   tally : Format → Mode → (chunk : ℕ) → (times : ℕ) → Request
-  ask : (questions : List Question) → Format → (limit : ℕ) → (front : List Part) → Request
+  ask : (questions : List Question) → Format → (limit threads : ℕ) → (front : List Part) → Request
   estimate : Format → (front : List Part) → Request
   fronts : Format → (blocks : ℕ) → (limit : ℕ) → (orders : List (List Part)) → Request
   alike : Format → (limit : ℕ) → Request

@@ -98,7 +98,7 @@ fn byte_words(before: Option<u8>, rest: &[u8]) -> (&'static [u8], &'static [u8])
         }
         [b':', after @ ..] if begins_with_kind(after) => (
             b"no `:` stands between a name and its kind",
-            b"write `object a account 100`, and for a formal `account f`",
+            b"leave it out, as in `object NAME account 100` and `account NAME`",
         ),
         [first, second, ..] => sign_words(*first, *second),
         [first] => sign_words(*first, b' '),
@@ -130,9 +130,9 @@ fn sign_words(first: u8, second: u8) -> (&'static [u8], &'static [u8]) {
         ),
         b'!' => (
             b"there is no `not`; a `!` stands only before a `=`",
-            b"write `if x == 0 { .. }`",
+            b"write the comparison, as `NAME == 0` for `!NAME`",
         ),
-        b':' if second == b'=' => (b"an assignment is written `=`", b"write `x = 1;`"),
+        b':' if second == b'=' => (b"an assignment is written `=`", b"write `=` in its place"),
         b':' => (
             b"no `:` stands in a script; a body stands in braces",
             b"write `{` in its place, and `}` at the end of the body",

@@ -10,7 +10,7 @@ fn for_flow(word: &[u8], is_inside: bool) -> Option<Usual> {
     match word {
         b"while" | b"for" | b"foreach" | b"loop" => mistake(
             b"the only loop is a `repeat` with a number",
-            b"write `repeat 1000 { .. }`, and `if x == 3 { leave; }` in it to end it earlier",
+            b"write `repeat 1000 { .. }`, and `if NAME == 3 { leave; }` in it to end it earlier",
         ),
         b"break" => mistake(
             b"a `repeat` is ended by `leave;`",
@@ -49,11 +49,11 @@ fn for_statement(word: &[u8]) -> Option<Usual> {
     match word {
         b"let" | b"var" | b"const" | b"int" | b"integer" | b"bool" | b"float" | b"auto" => mistake(
             b"a variable needs no declaration: it is 0 until it is set",
-            b"write `x = 1;` alone",
+            b"leave the word out, and set it, as in `|VALUE| = 1;`",
         ),
         b"print" | b"println" | b"printf" | b"echo" => mistake(
             b"a script prints nothing: the report shows each reply and each object's state",
-            b"ask for what is to be shown, as in `x = a.balance();`",
+            b"ask for what is to be shown, as in `NAME = OBJECT.balance();`",
         ),
         b"sleep" | b"delay" | b"pause" => mistake(
             b"no statement waits for a time: the schedule says who goes on",
@@ -61,15 +61,15 @@ fn for_statement(word: &[u8]) -> Option<Usual> {
         ),
         b"assert" | b"check" => mistake(
             b"a script has no assertions: a claim stands on a comment line of its own",
-            b"write `#? always ann.x == 1` there, and `qs ask` says whether it holds at each end",
+            b"write `#? always CLIENT.NAME == 1` there, and `qs ask` says whether it holds at each end",
         ),
         b"switch" | b"case" | b"match" => mistake(
             b"the only choice is an `if`",
-            b"write `if x == 0 { .. } else { .. }`",
+            b"write `if NAME == 0 { .. } else { .. }`",
         ),
         b"call" | b"send" => mistake(
             b"a request begins with its object",
-            b"write `a.deposit(1);`",
+            b"write `OBJECT.OPERATION(..);`",
         ),
         _ => None,
     }
@@ -101,7 +101,7 @@ fn for_waiting(word: &[u8]) -> Option<Usual> {
             {
                 mistake(
                     b"there are no wait conditions: a block goes on as soon as its turn has come",
-                    b"ask in the block, as in `x = b.size(); if x > 0 { .. }`",
+                    b"ask in the block, as in `NAME = OBJECT.size(); if NAME > 0 { .. }`",
                 )
             }
         b"do" | b"begin" | b"then" | b"is" => mistake(
@@ -117,7 +117,7 @@ fn for_ending(word: &[u8], is_count: bool) -> Option<Usual> {
     match word {
         b"when" | b"unless" | b"while" | b"until" if is_count => mistake(
             b"a `repeat` has a number, and no condition",
-            b"write `repeat 1000 { .. }`, and `if x == 3 { leave; }` in it to end it earlier",
+            b"write `repeat 1000 { .. }`, and `if NAME == 3 { leave; }` in it to end it earlier",
         ),
         b"when" | b"unless" | b"while" | b"until" => leave_if(),
         _ => None,
@@ -128,7 +128,7 @@ fn for_ending(word: &[u8], is_count: bool) -> Option<Usual> {
 pub(crate) fn leave_if() -> Option<Usual> {
     mistake(
         b"a `leave` has no condition: an `if` is around it",
-        b"write `if x == 3 { leave; }`",
+        b"write `if NAME == 3 { leave; }`",
     )
 }
 

@@ -1,10 +1,11 @@
 // What is said of a fault of form.
 
 ghost use Rattle.std.specs.Prelude.{◌≡◌, IfOk, IfSome, IsTrue, option_map};
-ghost use Rattle.qs_messages.specs.ReadTold.{IsAt, IsSpot, is_word as is_word_of};
+ghost use Rattle.qs_messages.specs.ReadTold.{IsAt, IsSpot, is_arrow as is_arrow_of, is_word as is_word_of};
 ghost use Rattle.qs_messages.specs.Sources.{end_in, span_in};
 
 use crate::causes::expected::expected;
+use crate::causes::filled::filled;
 use crate::causes::finding::FormFault;
 use crate::causes::follow::follow_at;
 use crate::causes::foreign::{foreign_at, open_before};
@@ -27,15 +28,34 @@ fn is_word(token: Option<&Token>) -> bool
     )
 }
 
-// The token at a place, or the word before it where that is wanted and is there.
+// Whether two tokens are an arrow of other languages.
+fn is_arrow(first: Option<&Token>, second: Option<&Token>) -> bool
+    ensures exact { result ≡ is_arrow_of (option_map (λ token. token.now) first.entry) (option_map (λ token. token.now) second.entry) }
+{
+    match (first, second) {
+        (Some(Token::Minus), Some(Token::Greater)) => true,
+        (Some(Token::Less), Some(Token::Minus)) => true,
+        _ => false,
+    }
+}
+
+// The token at a place, or an arrow that begins there, or the word before it where that is wanted and is there.
 fn spot(source: Source<'_>, place: usize, is_before: bool) -> Span
     ensures spot { IsAt source.entry.text.now source.entry.tokens.now place result }
 {
     let before = place.saturating_sub(1);
     if is_before && is_word(source.token(before)) {
-        source.span(before)
+        return source.span(before);
+    }
+    let (here, next) = (source.span(place), place.saturating_add(1));
+    let touches = source.end_of(place).start == source.span(next).start;
+    if touches && is_arrow(source.token(place), source.token(next)) {
+        Span {
+            start: here.start,
+            length: 2,
+        }
     } else {
-        source.span(place)
+        here
     }
 }
 
@@ -96,7 +116,7 @@ fn say_usual(
     let help = if usual.help.is_empty() {
         open_help(alloc, source, place)?
     } else {
-        joined(alloc, &[usual.help])?
+        filled(alloc, source, place, usual.help)?
     };
     let label = if usual.is_before {
         joined(alloc, &[])?
@@ -201,19 +221,19 @@ fn number_missing(source: Source<'_>, stage: Stage, place: usize) -> Option<Want
     match token_back(source, place, 1)? {
         Token::Account => Some(Wanted {
             what: b"the balance to begin with",
-            help: b"write a number from 0 to 1000000000000000, as in `object a account 100`",
+            help: b"write a number from 0 to 1000000000000000, as in `object NAME account 100`",
         }),
         Token::Buffer => Some(Wanted {
             what: b"the number of places",
-            help: b"write a number from 1 to 1024, as in `object b buffer 4`",
+            help: b"write a number from 1 to 1024, as in `object NAME buffer 4`",
         }),
         Token::Grid => Some(Wanted {
             what: b"the numbers of rows and columns",
-            help: b"write two numbers from 1 to 16, as in `object g grid 2 3`",
+            help: b"write two numbers from 1 to 16, as in `object NAME grid 2 3`",
         }),
         Token::Number(_) => Some(Wanted {
             what: b"the number of columns",
-            help: b"write two numbers from 1 to 16, as in `object g grid 2 3`",
+            help: b"write two numbers from 1 to 16, as in `object NAME grid 2 3`",
         }),
         _ => None,
     }

@@ -1,7 +1,6 @@
 // The diagnosis of a text that is refused.
 
 ghost use Rattle.std.specs.Prelude.{◌≡◌, ◌≤◌, ◌<◌, ◌↔◌, IsTrue, OnOk, IfOk, List, [], length, Ok, Err, Some};
-ghost use Rattle.std.specs.List.{count_by};
 ghost use Rattle.qs_script.specs.declared.tokens.token.Token.{Token};
 ghost use Rattle.qs_script.specs.declared.tokens.lex.TokenFault.{TokenFault};
 ghost use Rattle.qs_script.specs.audit.tokens.Tokens.{tokens_of};
@@ -9,7 +8,7 @@ ghost use Rattle.qs_script.specs.audit.grammar.Grammar.{IsScript};
 ghost use Rattle.qs_script.specs.audit.Reads.{IsScriptText};
 ghost use Rattle.qs_script.specs.grammar.FormPlaces.{IsFormPlace};
 ghost use Rattle.qs_script.specs.declared.tree.tree.Item.{Item};
-ghost use Rattle.qs_messages.specs.ReadTold.{IsFormTold, IsTokenTold, MayEnd, declared_in, is_client, is_object};
+ghost use Rattle.qs_messages.specs.ReadTold.{IsFormTold, IsTokenTold, MayEnd};
 ghost use Rattle.qs_messages.specs.Spans.{ArePlaced, IsFaultAt, Stand, tokens_in};
 ghost use Rattle.qs_messages.specs.CheckTold.{IsCheckTold, IsRefusalTold, IsRefusedAt, IsSaidAt, IsToldAt, span_at};
 
@@ -21,7 +20,7 @@ use crate::causes::shape::say_form;
 use crate::causes::source::Source;
 use crate::causes::spans::{PlacedToken, SpanFault, place_of_anchor, placed_tokens};
 use qs_diagnosis::{Diagnosis, Span, put_diagnosis};
-use qs_script::tokens::{Token, TokenFault, TokensFault, list_tokens};
+use qs_script::tokens::{TokenFault, TokensFault, list_tokens};
 use qs_script::tree::Script;
 use qs_script::{ReadFault, read};
 use std::alloc::{AllocError, Global};
@@ -201,44 +200,5 @@ pub fn tell_check(alloc: Global, out: &mut Vec<u8>, text: &[u8]) -> Result<(), A
         }
         Err(ReadFault::Memory) => Err(AllocError),
         Err(_) => Ok(()),
-    }
-}
-
-fn begins_client(token: &Token) -> bool
-    ensures value { result ≡ is_client token.now }
-{
-    matches!(token, Token::Client)
-}
-
-fn begins_object(token: &Token) -> bool
-    ensures value { result ≡ is_object token.now }
-{
-    matches!(token, Token::Object)
-}
-
-fn count_clients(tokens: &[Token]) -> usize
-    ensures value { result ≡ count_by is_client tokens.now }
-{
-    tokens.iter().filter(|token| begins_client(token)).count()
-}
-
-fn count_objects(tokens: &[Token]) -> usize
-    ensures value { result ≡ count_by is_object tokens.now }
-{
-    tokens.iter().filter(|token| begins_object(token)).count()
-}
-
-/// How many clients and how many objects the tokens of a text declare; none, where it has no tokens. It fails only
-/// where memory runs out.
-pub fn actors(alloc: Global, text: &[u8]) -> Result<(usize, usize), AllocError>
-    ensures exact { IfOk result (λ found. found ≡ declared_in (tokens_of text.now)) }
-{
-    match list_tokens(alloc, text) {
-        Ok(tokens) => Ok((
-            count_clients(tokens.as_slice()),
-            count_objects(tokens.as_slice()),
-        )),
-        Err(TokensFault::Memory) => Err(AllocError),
-        Err(TokensFault::Token(_)) => Ok((0, 0)),
     }
 }

@@ -69,15 +69,19 @@ fn at_arrow(source: Source<'_>, stage: Stage, token: &Token, place: usize) -> Op
     match (token, next) {
         (Token::Minus, Some(Token::Greater)) if stage == Stage::ObjectKind => mistake(
             b"an object's kind stands right after its name",
-            b"write `object a account 100`",
+            b"leave the `->` out",
         ),
         (Token::Minus, Some(Token::Greater)) => mistake(
             b"there is no `->`: an operation stands after a `.`, and a variable is set by `=`",
-            b"write `a.deposit(1);` or `x = a.balance();`",
+            if stage == Stage::AfterName {
+                b"write `.` in its place"
+            } else {
+                b"write `|LAST| = ..`"
+            },
         ),
         (Token::Less, Some(Token::Minus)) if stage == Stage::AfterName => mistake(
             b"an assignment is written `=`",
-            b"write `x = a.balance();`",
+            b"write `=` in its place",
         ),
         _ => None,
     }
@@ -114,7 +118,7 @@ fn at_point(source: Source<'_>, dot: usize) -> Option<Usual> {
 fn after_variable() -> Option<Usual> {
     Some(Usual {
         cause: b"a variable is written without its client's name",
-        help: b"write `x` for a variable of this client; those of other clients can't be read",
+        help: b"a variable of this client is written by its name alone; those of other clients can't be read",
         is_before: true,
     })
 }
@@ -207,11 +211,11 @@ fn at_item(token: &Token) -> Option<Usual> {
         Token::Dot => mistake(b"numbers are whole", b"write the number without a point"),
         Token::Separate => mistake(
             b"a block stands in a client or a template",
-            b"write `client ann { separate a { .. } }`",
+            b"write `client NAME { separate |RIGHT| { .. } }`",
         ),
         Token::If | Token::Repeat | Token::Leave | Token::Else => mistake(
             b"a statement stands in a block of a client",
-            b"write `client ann { separate a { .. } }` around it",
+            b"write `client NAME { separate OBJECT { .. } }` around it",
         ),
         _ => None,
     }
@@ -225,7 +229,7 @@ fn at_block(source: Source<'_>, token: &Token, place: usize) -> Option<Usual> {
         ),
         Token::Name(_) | Token::If | Token::Repeat | Token::Leave | Token::Else => mistake(
             b"every statement stands inside a block",
-            b"write `separate a { .. }` around it, with the objects that it uses",
+            b"write `separate |OBJECT| { .. }` around it, with the objects that it uses",
         ),
         Token::Semicolon => mistake(b"no `;` stands after a `}`", b"leave it out"),
         Token::Object | Token::Client | Token::Template => mistake(
@@ -234,7 +238,7 @@ fn at_block(source: Source<'_>, token: &Token, place: usize) -> Option<Usual> {
         ),
         Token::OpenBrace => mistake(
             b"a block begins with `separate` and its objects",
-            b"write `separate a { .. }`",
+            b"write `separate OBJECT { .. }`",
         ),
         _ => None,
     }
@@ -244,7 +248,7 @@ fn at_statement(token: &Token) -> Option<Usual> {
     match token {
         Token::Separate => mistake(
             b"a block stands in no other block",
-            b"reserve all at once, as in `separate a b { .. }`, or close the block before with a `}`",
+            b"reserve all at once, as in `separate |LIST| |RIGHT| { .. }`, or close the block before with a `}`",
         ),
         Token::Semicolon => mistake(
             b"no `;` stands after a `}`, and there is no empty statement",
@@ -252,7 +256,7 @@ fn at_statement(token: &Token) -> Option<Usual> {
         ),
         Token::Else => mistake(
             b"an `else` stands right after the `}` of an `if`",
-            b"write `if x == 0 { .. } else { .. }`",
+            b"write `if .. { .. } else { .. }`",
         ),
         Token::OpenBrace => mistake(
             b"braces stand only after `if`, `else`, `repeat`, a block's list and a client's name",
@@ -270,22 +274,22 @@ fn at_statement(token: &Token) -> Option<Usual> {
 fn at_subject(source: Source<'_>, token: &Token, place: usize) -> Option<Usual> {
     let next = source.token(place.saturating_add(1));
     match token {
-        Token::Equal => mistake(b"an assignment is written `=`", b"write `x = 1;`"),
+        Token::Equal => mistake(b"an assignment is written `=`", b"write `=` in its place"),
         Token::Plus | Token::Minus | Token::Times => match next {
             Some(Token::Assign) => mistake(
                 b"an assignment is written `=` alone",
-                b"write `x = x + 1;`",
+                b"write `|LEFT| = |LEFT| |SIGN| |LAST|;`",
             ),
             Some(Token::Plus | Token::Minus) => mistake(
                 b"there is no `++` and no `--`",
-                b"write `x = x + 1;` and `x = x - 1;`",
+                b"write `|LEFT| = |LEFT| |SIGN| 1;`",
             ),
             _ => mistake(
                 b"a name that begins a statement is a variable that is set, or an object",
-                b"write `x = x + 1;`",
+                b"write `|LEFT| = |LEFT| |SIGN| |RIGHT|;`",
             ),
         },
-        Token::OpenParen => mistake(b"a request names its object", b"write `a.put(1);`"),
+        Token::OpenParen => mistake(b"a request names its object", b"write `OBJECT.|LEFT|(..)`"),
         _ => None,
     }
 }
@@ -297,11 +301,11 @@ fn at_arguments(source: Source<'_>, stage: Stage, token: &Token, place: usize) -
         }
         Token::Plus | Token::Minus | Token::Times => mistake(
             b"an argument is a number or a variable, and no sum",
-            b"give the sum to a variable before, as in `x = 1 + 2;`",
+            b"give the sum to a variable before, as in `NAME = |LEFT| |SIGN| |RIGHT|;`",
         ),
         Token::Dot if stage == Stage::ArgumentNext => at_point(source, place).or(mistake(
             b"an argument is a number or a variable, and no query",
-            b"ask before, as in `x = b.take();`",
+            b"ask before, as in `NAME = |CALL|;`, and give NAME",
         )),
         Token::CloseParen if stage == Stage::ArgumentMore => {
             mistake(
@@ -312,12 +316,12 @@ fn at_arguments(source: Source<'_>, stage: Stage, token: &Token, place: usize) -
         Token::Name(_) | Token::Number(_) if stage == Stage::ArgumentNext => {
             mistake(
                 b"a comma stands between two arguments",
-                b"write `g.set(0, 1, 5);`",
+                b"write `|LEFT|, |VALUE|`",
             )
         }
         _ if stage == Stage::ArgumentsOpen => mistake(
             b"the arguments of a request stand in parentheses, which stand there without arguments, too",
-            b"write `a.deposit(1);` and `x = a.balance();`",
+            b"write `|LEFT|(..)`, and `|LEFT|()` without arguments",
         ),
         _ => None,
     }
@@ -325,28 +329,25 @@ fn at_arguments(source: Source<'_>, stage: Stage, token: &Token, place: usize) -
 
 fn at_test(source: Source<'_>, stage: Stage, token: &Token, place: usize) -> Option<Usual> {
     match token {
-        Token::OpenParen => mistake(
-            b"a condition has no parentheses",
-            b"write `if x == 0 { .. }`",
-        ),
+        Token::OpenParen => mistake(b"a condition has no parentheses", b"leave them out"),
         Token::Assign if stage == Stage::Relation => {
-            mistake(b"equality is written `==`", b"write `if x == 0 { .. }`")
+            mistake(b"equality is written `==`", b"write `==` in its place")
         }
         Token::Dot => at_point(source, place).or(mistake(
             b"a condition compares numbers and variables, and no queries",
-            b"ask before, as in `x = a.balance();`, and compare x",
+            b"ask before, as in `NAME = |CALL|;`, and compare NAME",
         )),
         Token::Plus | Token::Minus | Token::Times => mistake(
             b"a condition compares numbers and variables, and no sums",
-            b"give the sum to a variable before, as in `z = x + 1;`",
+            b"give the sum to a variable before, as in `NAME = |LEFT| |SIGN| |RIGHT|;`",
         ),
         Token::OpenBrace if stage == Stage::Relation => mistake(
             b"a condition compares two numbers or variables",
-            b"write `if x != 0 { .. }`",
+            b"write `if |LEFT| != 0 { .. }`",
         ),
         _ if stage == Stage::BodyBrace => mistake(
             b"a body stands in braces",
-            b"write `if x == 0 { .. }`",
+            b"write `if .. { .. }`",
         ),
         _ => None,
     }
@@ -360,7 +361,7 @@ fn at_body(stage: Stage, token: &Token) -> Option<Usual> {
         ),
         Token::Name(_) if stage == Stage::Count => mistake(
             b"the number of a `repeat` is no variable",
-            b"write a number from 0 to 1000; `if x == 0 { leave; }` in the body ends it earlier",
+            b"write a number from 0 to 1000; an `if` with a `leave;` in the body ends it earlier",
         ),
         Token::Minus if stage == Stage::Count => {
             mistake(
@@ -381,15 +382,15 @@ fn at_list(token: &Token) -> Option<Usual> {
     match token {
         Token::Comma => mistake(
             b"the list of a block has no commas",
-            b"write `separate a b { .. }`",
+            b"write `|LEFT| |RIGHT|`",
         ),
         Token::OpenParen | Token::CloseParen => mistake(
             b"the list of a block has no parentheses",
-            b"write `separate a b { .. }`",
+            b"leave them out",
         ),
         Token::OpenBrace => mistake(
             b"the list of a block names at least one object",
-            b"write `separate a { .. }`",
+            b"write `separate OBJECT { .. }`",
         ),
         _ => None,
     }
@@ -400,7 +401,7 @@ fn at_value(stage: Stage, token: &Token) -> Option<Usual> {
         Stage::Value | Stage::Second => match token {
             Token::OpenParen => mistake(
                 b"an expression has no parentheses",
-                b"write `x = a + b;`, with one operator at most",
+                b"leave them out; it has one operator at most",
             ),
             Token::Plus => mistake(b"a number has no sign `+`", b"write the number alone"),
             _ => None,
@@ -408,9 +409,9 @@ fn at_value(stage: Stage, token: &Token) -> Option<Usual> {
         Stage::Signed => match token {
             Token::Name(_) => mistake(
                 b"a minus before a variable is not there",
-                b"write `y = 0 - x;`, and use y",
+                b"write `NAME = 0 - |VALUE|;`, and use NAME",
             ),
-            Token::Minus => mistake(b"a number has at most one sign", b"write `x = -5;`"),
+            Token::Minus => mistake(b"a number has at most one sign", b"leave one of them out"),
             _ => None,
         },
         Stage::AfterVariable | Stage::AfterNumber | Stage::ExpressionEnd | Stage::QueryEnd => {
@@ -424,20 +425,24 @@ fn after_value(stage: Stage, token: &Token) -> Option<Usual> {
     match token {
         Token::Plus | Token::Minus | Token::Times if stage == Stage::QueryEnd => mistake(
             b"a query stands alone at the right of `=`",
-            b"write `x = a.balance(); x = x + 1;`",
+            b"write `NAME = |FRONT|; |VARIABLE| = NAME |SIGN| |RIGHT|;`",
         ),
-        Token::Plus | Token::Minus | Token::Times => mistake(
+        Token::Times => mistake(
             b"an expression has at most one operator",
-            b"write `x = a + b; x = x + c;`",
+            b"give the product to a variable before, as in `NAME = |LEFT| * |RIGHT|;`, and use NAME",
+        ),
+        Token::Plus | Token::Minus => mistake(
+            b"an expression has at most one operator",
+            b"write `NAME = |FRONT|; |VARIABLE| = NAME |SIGN| |RIGHT|;`",
         ),
         Token::Dot if stage == Stage::ExpressionEnd => mistake(
             b"a query stands alone at the right of `=`",
-            b"ask before, as in `y = a.balance();`, and use y",
+            b"ask before, as in `NAME = |CALL|;`, and use NAME",
         ),
         Token::Dot if stage == Stage::AfterNumber => {
             mistake(b"numbers are whole", b"write the number without a point")
         }
-        Token::OpenParen => mistake(b"a query names its object", b"write `x = a.balance();`"),
+        Token::OpenParen => mistake(b"a query names its object", b"write `OBJECT.|LEFT|(..)`"),
         _ => None,
     }
 }
@@ -467,11 +472,11 @@ fn at_declaration(stage: Stage, token: &Token) -> Option<Usual> {
         Stage::ClientNext => match token {
             Token::OpenParen => mistake(
                 b"a client has no parameters",
-                b"write `client ann { .. }`, or a template with formals",
+                b"write `client |LEFT| { .. }`, or a template with formals",
             ),
             Token::Name(_) => mistake(
                 b"a client has its blocks in braces, or is started with a template",
-                b"write `client ann { .. }` or `client ann = pay(a)`",
+                b"write `client |LEFT| { .. }` or `client |LEFT| = |VALUE|(..)`",
             ),
             _ => None,
         },
@@ -484,34 +489,34 @@ fn at_parameters(stage: Stage, token: &Token) -> Option<Usual> {
     match stage {
         Stage::GivenOpen => mistake(
             b"the objects for the formals stand in parentheses",
-            b"write `client ann = pay(a)`",
+            b"write `|LEFT|(..)`, with an object for each formal",
         ),
         Stage::FormalKind => match token {
             Token::CloseParen => mistake(
                 b"a template has at least one formal",
-                b"write `template pay(account f) { .. }`",
+                b"write one, as in `account NAME`",
             ),
             Token::Name(_) | Token::Number(_) => mistake(
                 b"a formal is an object, and begins with its kind",
-                b"write `account f`; a number can come from an object, as in `x = f.balance();`",
+                b"write `account NAME`; a number can come from an object, as by `balance()`",
             ),
-            _ => mistake(b"a formal has a kind", b"write `account f`"),
+            _ => mistake(b"a formal has a kind", b"write one, as in `account NAME`"),
         },
         Stage::GivenNext => match token {
             Token::Name(_) => mistake(
                 b"a comma stands between two objects",
-                b"write `client ann = pay(a, b)`",
+                b"write `|LEFT|, |VALUE|`",
             ),
             _ => None,
         },
         Stage::FormalNext => match token {
             Token::Number(_) => mistake(
                 b"a formal has a kind and a name, and no number",
-                b"write `account f`",
+                b"leave the number out",
             ),
             Token::Account | Token::Buffer | Token::Grid => mistake(
                 b"a comma stands between two formals",
-                b"write `template pay(account f, buffer g) { .. }`",
+                b"write `|LEFT|, |SIGN|`",
             ),
             _ => None,
         },
@@ -521,21 +526,18 @@ fn at_parameters(stage: Stage, token: &Token) -> Option<Usual> {
 
 fn at_kind(token: &Token) -> Option<Usual> {
     match token {
-        Token::Assign => mistake(
-            b"no `=` stands in a declaration",
-            b"write `object a account 100`",
-        ),
+        Token::Assign => mistake(b"no `=` stands in a declaration", b"leave it out"),
         Token::Minus => mistake(
             b"a `-` is a minus, and stands in no name",
             b"names have small letters, digits and `_`",
         ),
         Token::Number(_) => mistake(
             b"an object has a kind before its number",
-            b"write `object a account 100`",
+            b"write `object |LEFT| account |VALUE|`",
         ),
         Token::Name(_) => mistake(
             b"there are accounts, buffers and grids, and no other kinds",
-            b"write `object a account 100`",
+            b"write one of these, as in `object |LEFT| account 100`",
         ),
         _ => None,
     }
@@ -547,17 +549,11 @@ fn at_number(token: &Token) -> Option<Usual> {
             b"the numbers of a declaration have no sign",
             b"write the number alone",
         ),
-        Token::Assign => mistake(
-            b"no `=` stands in a declaration",
-            b"write `object a account 100`",
-        ),
-        Token::OpenParen => mistake(
-            b"a declaration has no parentheses",
-            b"write `object a account 100`",
-        ),
+        Token::Assign => mistake(b"no `=` stands in a declaration", b"leave it out"),
+        Token::OpenParen => mistake(b"a declaration has no parentheses", b"leave them out"),
         Token::Comma => mistake(
             b"no comma stands between the numbers of a grid",
-            b"write `object g grid 2 3`",
+            b"leave it out",
         ),
         _ => None,
     }

@@ -291,7 +291,7 @@ fn operation_help(
     joined(
         alloc,
         &[
-            b"the answer of a query is kept in a variable: write `x = ",
+            b"the answer of a query is kept in a variable: write `NAME = ",
             source.word(object),
             b".",
             call.as_slice(),

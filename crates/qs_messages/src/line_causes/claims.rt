@@ -1,19 +1,46 @@
 // What is said of the claims of a script, where these are asked and cannot be.
 
-use crate::line_causes::condition::{Quoted, put_unknown_in, put_unparsed};
+use crate::line_causes::condition::{NO_CLAIM, Quoted, put_unknown_in, put_unparsed};
 use crate::line_causes::program::program_of;
 use qs_check::Program;
 use qs_diagnosis::{Diagnosis, Span, put, put_diagnosis};
 use qs_line::{Settings, claim_parts, quantifier_of, read_line};
 use std::alloc::{AllocError, Global};
 
-const NO_WORD: &[u8] = b"the claim cannot be parsed";
-
 const WORDS: &[u8] =
     b"`#?` is followed by `always`, `some`, `throughout`, `ever` or `never`, and by a condition";
 
 const NONE: &[u8] =
-    b"error: no condition stands on the line, and the script has no claim\n  = help: write one on the line, as `--always 'a.balance() == 98'`, or in the script, as a line `#? always a.balance() == 98`\n";
+    b"error: no condition stands on the line, and the script has no claim\n  = help: write one on the line, as `--always 'OBJECT.balance() == 98'`, or in the script, as a line `#? always OBJECT.balance() == 98`\n";
+
+/// A line of a script that begins with `#?`: the word behind that, and the condition, with where it begins in the text.
+#[derive(Clone, Copy)]
+pub(crate) struct PlacedClaim<'a> {
+    pub(crate) word: &'a [u8],
+    pub(crate) start: usize,
+    pub(crate) condition: &'a [u8],
+}
+
+/// The lines of a script's text that begin with `#?`.
+pub(crate) fn placed_claims<'a>(
+    alloc: Global,
+    text: &'a [u8],
+) -> Result<Vec<PlacedClaim<'a>>, AllocError> {
+    let mut claims = Vec::new(alloc);
+    let mut end = 0usize;
+    for line in text.split(|byte| *byte == b'\n') {
+        end = end.saturating_add(line.len());
+        if let Some((word, condition)) = claim_parts(line) {
+            claims.push(PlacedClaim {
+                word,
+                start: end.saturating_sub(condition.len()),
+                condition,
+            })?;
+        }
+        end = end.saturating_add(1);
+    }
+    Ok(claims)
+}
 
 // Whether a line asks the claims of the script.
 fn asks_the_script<'a>(alloc: Global, words: &'a [&'a str]) -> bool {
@@ -40,7 +67,7 @@ fn put_word(
         out,
         text,
         &Diagnosis {
-            cause: NO_WORD,
+            cause: NO_CLAIM,
             span,
             label: b"",
             help: WORDS,
@@ -48,18 +75,28 @@ fn put_word(
     )
 }
 
-// Puts what is wrong with the claim of a word and a condition, if something is.
+// Puts what is wrong with a claim of a text, if something is.
 fn put_claim(
     alloc: Global,
     out: &mut Vec<u8>,
-    quoted: Quoted<'_>,
-    word: &[u8],
+    text: &[u8],
+    claim: PlacedClaim<'_>,
     program: &Program,
 ) -> Result<(), AllocError> {
+    let PlacedClaim {
+        word,
+        start,
+        condition,
+    } = claim;
     if quantifier_of(word).is_none() {
-        let start = quoted.start.saturating_sub(word.len());
-        return put_word(alloc, out, quoted.text, start, word);
+        return put_word(alloc, out, text, start.saturating_sub(word.len()), word);
     }
+    let quoted = Quoted {
+        text,
+        start,
+        condition,
+        is_claim: true,
+    };
     put_unparsed(alloc, out, quoted)?;
     if out.is_empty() {
         put_unknown_in(alloc, out, quoted, program)?;
@@ -81,26 +118,14 @@ pub(crate) fn put_claims<'a>(
     let Some(program) = program_of(alloc, text) else {
         return Ok(());
     };
-    let mut has_some = false;
-    let mut end = 0usize;
-    for line in text.split(|byte| *byte == b'\n') {
-        end = end.saturating_add(line.len());
-        if let Some((word, condition)) = claim_parts(line) {
-            has_some = true;
-            if out.is_empty() {
-                let start = end.saturating_sub(condition.len());
-                let quoted = Quoted {
-                    text,
-                    start,
-                    condition,
-                };
-                put_claim(alloc, out, quoted, word, &program)?;
-            }
-        }
-        end = end.saturating_add(1);
+    let claims = placed_claims(alloc, text)?;
+    if claims.is_empty() {
+        return put(out, NONE);
     }
-    if !has_some {
-        put(out, NONE)?;
+    for claim in &claims {
+        if out.is_empty() {
+            put_claim(alloc, out, text, *claim, &program)?;
+        }
     }
     Ok(())
 }

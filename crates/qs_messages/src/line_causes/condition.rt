@@ -1,6 +1,7 @@
 // What is said of a condition that cannot be parsed, or that asks for what the script does not have.
 
-use crate::causes::{Usual, mistake, name_bytes};
+use crate::causes::{joined, name_bytes, part};
+use crate::line_causes::line::CLAIMS;
 use crate::line_causes::program::program_of;
 use crate::line_causes::unknown::{Asked, asked_at, asked_in, say_unknown, span_of};
 use qs_check::Program;
@@ -18,40 +19,115 @@ const NO_SUM: &[u8] = b"the sum cannot be parsed";
 
 const UNKNOWN_SUM: &[u8] = b"the sum asks for what the script does not have";
 
-const SUM: &[u8] = b"a sum adds up numbers, variables and queries, as in `a.balance() + ann.x - 3`";
+const SUM: &[u8] =
+    b"a sum adds up numbers, variables and queries, as in `OBJECT.balance() + CLIENT.NAME - 3`";
 
 // The setting that takes a sum.
 const VALUES: &str = "--values";
 
 const FORM: &[u8] =
-    b"a condition compares sums, as in `a.balance() + 5 >= ann.x`, and `&&`, `||`, `!` and parentheses join comparisons";
+    b"a condition compares sums, as in `OBJECT.balance() + 5 >= CLIENT.NAME`, and `&&`, `||`, `!` and parentheses join comparisons";
+
+// What is meant at a place of a condition: what is wrong there, and either help in words, in which a `|` is the word at
+// the place, or what to write in place of so many bytes from there on.
+#[derive(Clone, Copy)]
+struct Meant {
+    span: Span,
+    cause: &'static [u8],
+    help: &'static [u8],
+    replaced: usize,
+    by: &'static [u8],
+}
+
+// What is meant, with help in words.
+fn advised(span: Span, cause: &'static [u8], help: &'static [u8]) -> Option<Meant> {
+    Some(Meant {
+        span,
+        cause,
+        help,
+        replaced: 0,
+        by: b"",
+    })
+}
+
+// What is meant, with what to write in place of some bytes.
+fn rewritten(
+    span: Span,
+    cause: &'static [u8],
+    replaced: usize,
+    by: &'static [u8],
+) -> Option<Meant> {
+    Some(Meant {
+        span,
+        cause,
+        help: b"",
+        replaced,
+        by,
+    })
+}
+
+// Help in words, with the word of the text.
+fn advice_of(alloc: Global, word: &[u8], help: &'static [u8]) -> Result<Vec<u8>, AllocError> {
+    let mut out = Vec::new(alloc);
+    for piece in help.split(|byte| *byte == b'|') {
+        if !out.is_empty() {
+            out.extend_from_slice(word)?;
+        }
+        out.extend_from_slice(piece)?;
+    }
+    Ok(out)
+}
+
+// The help for what is meant: where it has no words of its own, the whole text as it is to be written.
+fn help_of(alloc: Global, text: &[u8], meant: Meant) -> Result<Vec<u8>, AllocError> {
+    let start = meant.span.start.min(text.len());
+    let (front, rest) = (&text[..start], &text[start..]);
+    if !meant.help.is_empty() {
+        let word = &rest[..meant.span.length.min(rest.len())];
+        return advice_of(alloc, word, meant.help);
+    }
+    let rest = &rest[meant.replaced.min(rest.len())..];
+    joined(
+        alloc,
+        &[
+            b"write `",
+            front.trim_ascii_start(),
+            part(meant.by),
+            rest.trim_ascii_end(),
+            b"`",
+        ],
+    )
+}
 
 // What other languages write in place of a sign, from its byte on.
-fn for_sign(rest: &[u8]) -> Option<Usual> {
+fn for_sign(start: usize, rest: &[u8]) -> Option<Meant> {
+    let span = Span { start, length: 1 };
     match rest {
-        [b'=', b'<', ..] => mistake(b"at most is written `<=`", b"write `ann.x <= 1`"),
-        [b'=', b'>', ..] => mistake(b"at least is written `>=`", b"write `ann.x >= 1`"),
-        [b'=', ..] => mistake(b"equality is written `==`", b"write `ann.x == 1`"),
-        [b'&', ..] => for_word(b"and"),
-        [b'|', ..] => for_word(b"or"),
-        [b'*', ..] => mistake(
+        [b'=', b'<', ..] => rewritten(span, b"at most is written `<=`", 2, b"<="),
+        [b'=', b'>', ..] => rewritten(span, b"at least is written `>=`", 2, b">="),
+        [b'=', ..] => rewritten(span, b"equality is written `==`", 1, b"=="),
+        [b'&', ..] => rewritten(span, b"`and` is written `&&`", 1, b"&&"),
+        [b'|', ..] => rewritten(span, b"`or` is written `||`", 1, b"||"),
+        [b'*', ..] => advised(
+            span,
             b"a condition has sums, and no products",
-            b"write `ann.x + ann.x`",
+            b"add a value up, as in `CLIENT.NAME + CLIENT.NAME`",
         ),
-        [b'A'..=b'Z', ..] => mistake(b"names have small letters", b"write it in small letters"),
+        [b'A'..=b'Z', ..] => advised(
+            span,
+            b"names have small letters",
+            b"write it in small letters",
+        ),
         _ => None,
     }
 }
 
-fn for_word(word: &[u8]) -> Option<Usual> {
+fn for_word(span: Span, word: &[u8]) -> Option<Meant> {
     match word {
-        b"and" => mistake(
-            b"`and` is written `&&`",
-            b"write `ann.x == 1 && bob.y == 2`",
-        ),
-        b"or" => mistake(b"`or` is written `||`", b"write `ann.x == 1 || bob.y == 2`"),
-        b"not" => mistake(b"`not` is written `!`", b"write `!(ann.x == 1)`"),
-        b"if" => mistake(b"a condition stands alone", b"leave the `if` out"),
+        b"and" => rewritten(span, b"`and` is written `&&`", 3, b"&&"),
+        b"or" => rewritten(span, b"`or` is written `||`", 2, b"||"),
+        b"not" => advised(span, b"`not` is written `!`", b"write `!(COND)`"),
+        b"if" => advised(span, b"a condition stands alone", b"leave the `if` out"),
         _ => None,
     }
 }
@@ -79,52 +155,41 @@ fn word_before(text: &[u8], place: usize) -> Span {
 }
 
 // A name that stands alone, with what comes after it: there is no `.` before it and none behind it.
-fn for_name(text: &[u8], start: usize, rest: &[u8]) -> Option<Usual> {
-    let is_name = matches!(text.get(start), Some(b'a'..=b'z'));
-    if !is_name || front_of(text, start).ends_with(b".") {
+fn for_name(text: &[u8], span: Span, rest: &[u8]) -> Option<Meant> {
+    let is_name = matches!(text.get(span.start), Some(b'a'..=b'z'));
+    if !is_name || front_of(text, span.start).ends_with(b".") {
         return None;
     }
     if rest.starts_with(b"(") {
-        return mistake(b"a query names its object", b"write `a.balance()`");
+        return advised(span, b"a query names its object", b"write `OBJECT.|(..)`");
     }
-    mistake(
+    advised(
+        span,
         b"a variable is named with its client, and a query with its object",
-        b"write `ann.x` or `a.balance()`",
+        b"write `CLIENT.|` or `OBJECT.|()`",
     )
 }
 
 // What is meant at an unexpected place of a condition: by the word there, or by the one before it.
-fn meant_by_word(text: &[u8], place: usize) -> Option<(Span, Usual)> {
+fn meant_by_word(text: &[u8], place: usize) -> Option<Meant> {
     let rest = &text[place.min(text.len())..];
     let here = Span {
         start: place,
         length: name_bytes(rest),
     };
-    if let Some(usual) = for_word(&rest[..here.length.min(rest.len())]) {
-        return Some((here, usual));
+    if let Some(meant) = for_word(here, &rest[..here.length.min(rest.len())]) {
+        return Some(meant);
     }
     let before = word_before(text, place);
     let front = front_of(text, place);
     let word = &front[before.start.min(front.len())..];
-    match for_word(word).or(for_name(text, before.start, rest)) {
-        Some(usual) => Some((before, usual)),
-        None => None,
-    }
+    for_word(before, word).or(for_name(text, before, rest))
 }
 
-// What is meant at a fault, and where.
-fn meant_at(text: &[u8], fault: ConditionFault) -> Option<(Span, Usual)> {
+// What is meant at a fault.
+fn meant_at(text: &[u8], fault: ConditionFault) -> Option<Meant> {
     match fault {
-        ConditionFault::Byte { place } => match for_sign(&text[place.min(text.len())..]) {
-            Some(usual) => Some((
-                Span {
-                    start: place,
-                    length: 1,
-                },
-                usual,
-            )),
-            None => None,
-        },
+        ConditionFault::Byte { place } => for_sign(place, &text[place.min(text.len())..]),
         ConditionFault::Form { place } => meant_by_word(text, place),
         _ => None,
     }
@@ -137,6 +202,26 @@ pub(crate) struct Quoted<'a> {
     /// Where the condition begins in the text.
     pub(crate) start: usize,
     pub(crate) condition: &'a [u8],
+    pub(crate) is_claim: bool,
+}
+
+// How a cause begins that is a condition's; and what it begins with where the condition is that of a claim of a script.
+const CONDITION: &[u8] = b"the condition";
+
+/// That a claim of a script cannot be parsed.
+pub(crate) const NO_CLAIM: &[u8] = b"a claim of the script cannot be parsed";
+
+const CLAIM: &[u8] = b"a claim of the script";
+
+// What is wrong with a condition: with that of a claim, by words that say so.
+fn cause_in(alloc: Global, quoted: Quoted<'_>, cause: &[u8]) -> Result<Vec<u8>, AllocError> {
+    if !quoted.is_claim {
+        return joined(alloc, &[cause]);
+    }
+    if cause.starts_with(CONDITION) && cause.len() >= CONDITION.len() {
+        return joined(alloc, &[CLAIM, &cause[CONDITION.len()..]]);
+    }
+    joined(alloc, &[NO_CLAIM, b": ", cause])
 }
 
 // Puts a cause with its place in a condition.
@@ -154,12 +239,13 @@ fn put_at(
         start: start.min(quoted.text.len()),
         length: span.length,
     };
+    let whole = cause_in(alloc, quoted, cause)?;
     put_diagnosis(
         alloc,
         out,
         quoted.text,
         &Diagnosis {
-            cause,
+            cause: whole.as_slice(),
             span,
             label,
             help,
@@ -198,7 +284,26 @@ fn whole<'a>(word: &'a str) -> Quoted<'a> {
         text: word.as_bytes(),
         start: 0,
         condition: word.as_bytes(),
+        is_claim: false,
     }
+}
+
+/// The conditions that stand on a line.
+pub(crate) fn conditions_on<'a>(
+    alloc: Global,
+    words: &'a [&'a str],
+) -> Result<Vec<&'a str>, AllocError> {
+    let mut found = Vec::new(alloc);
+    for (place, word) in words.iter().enumerate() {
+        for setting in CLAIMS {
+            if is_setting(word, setting) {
+                if let Some(condition) = value_after(&words[place..], setting) {
+                    found.push(condition)?;
+                }
+            }
+        }
+    }
+    Ok(found)
 }
 
 /// Puts where the first condition after a setting that cannot be parsed cannot, if one stands on the line.
@@ -228,8 +333,17 @@ fn put_fault(
     help: &[u8],
 ) -> Result<(), AllocError> {
     let text = quoted.condition;
-    if let Some((span, usual)) = meant_at(text, fault) {
-        return put_at(alloc, out, quoted, span, usual.cause, b"", usual.help);
+    if let Some(meant) = meant_at(text, fault) {
+        let help = help_of(alloc, text, meant)?;
+        return put_at(
+            alloc,
+            out,
+            quoted,
+            meant.span,
+            meant.cause,
+            b"",
+            help.as_slice(),
+        );
     }
     match place_of(fault, text) {
         Some((start, label)) => {

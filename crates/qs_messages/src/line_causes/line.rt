@@ -1,5 +1,6 @@
 // What is said of a command line that is refused.
 
+use crate::causes::name_bytes;
 use crate::line_causes::condition::{put_condition, put_sum};
 use crate::line_causes::hints::put_hint;
 use qs_diagnosis::{put, put_all};
@@ -263,10 +264,10 @@ fn put_rounds(out: &mut Vec<u8>, rounds: &str) -> Result<(), AllocError> {
 pub(crate) const CLAIMS: [&str; 5] = ["--always", "--some", "--throughout", "--ever", "--never"];
 
 const NO_ACTOR: &[u8] =
-    b"is no actor\n  = help: an actor is `c` or `h` and one digit, or `@` and a name, as in `@ann*2,h0`: twice the client ann, and then the handler of object 0\n";
+    b"is no actor\n  = help: an actor is `@` and a name, or `c` or `h` and one digit, as in `@ann*2,@a`: twice the client ann, and then the handler of the object a\n";
 
 const NO_CLIENT: &[u8] =
-    b"is no client\n  = help: a client is `c` and one digit, or `@` and a name, as in `@ann*2,c0`: two blocks of ann, and then one of client 0\n";
+    b"is no client\n  = help: a client is `@` and a name, or `c` and one digit, as in `@ann*2,@bob`: two blocks of ann, and then one of bob\n";
 
 const NO_TIMES: &[u8] = b"has no number from 1 to 1000000 after its `*`\n";
 
@@ -299,6 +300,33 @@ fn fault_of_part(part: &str, may_be_handler: bool) -> Option<&'static [u8]> {
         });
     }
     None
+}
+
+// Whether a part of a list begins with a name, and has no `@` before it: it is no `c` or `h` with digits alone.
+fn is_bare_name(part: &str) -> bool {
+    let text = part.split('*').next().unwrap_or("").as_bytes();
+    match text {
+        [b'c' | b'h', rest @ ..] if rest.iter().all(u8::is_ascii_digit) => false,
+        [b'a'..=b'z', ..] => name_bytes(text) == text.len(),
+        _ => false,
+    }
+}
+
+// Puts that a name in a list has no `@`, and how it is written.
+fn put_bare_name(
+    out: &mut Vec<u8>,
+    which: Which<'_>,
+    place: u64,
+    part: &[u8],
+) -> Result<(), AllocError> {
+    put_part(
+        out,
+        which,
+        place,
+        part,
+        b"is a name without an `@` before it\n",
+    )?;
+    put_all(out, &[b"  = help: write `@", part, b"`\n"])
 }
 
 // For how many actors a part of a list stands.
@@ -344,6 +372,9 @@ fn put_fault(
     let mut place = 1u64;
     let mut count = 0u32;
     for part in list.split(',') {
+        if is_bare_name(part) {
+            return put_bare_name(out, which, place, part.as_bytes());
+        }
         if let Some(what) = fault_of_part(part, may_be_handler) {
             return put_part(out, which, place, part.as_bytes(), what);
         }

@@ -1,10 +1,13 @@
 // What is said of a list that names somebody whom the script does not have, or two at once.
 
+ghost use Rattle.std.specs.Prelude.{◌<◌, length};
+
+use crate::causes::is_near;
 use crate::line_causes::line::{LEADS, Which, put_part};
 use crate::line_causes::program::program_of;
 use qs_check::Program;
 use qs_diagnosis::{put, put_all};
-use qs_line::{ListFault, Part, Why, actors_of, clients_of, list_in, value_after};
+use qs_line::{ListFault, Part, Who, Why, actors_of, clients_of, list_in, value_after};
 use std::alloc::{AllocError, Global};
 
 /// Puts which part of the list of the line names nobody of the script or two at once, and who is there.
@@ -117,7 +120,65 @@ fn put_unnamed(
             )?;
         }
     }
+    if let (Some(part), Why::Unknown | Why::NoClient) = (parts.get(place), why) {
+        put_near(alloc, out, program, &part.who, with_handlers)?;
+    }
     put_who_is_there(out, program, with_handlers)
+}
+
+// Puts the name that is probably meant: a client's that is near, or else an object's, where these may stand in the list.
+fn put_near(
+    alloc: Global,
+    out: &mut Vec<u8>,
+    program: &Program,
+    who: &Who,
+    with_objects: bool,
+) -> Result<(), AllocError> {
+    let Who::Name(name) = who else {
+        return Ok(());
+    };
+    let before = out.len();
+    put_near_client(alloc, out, program, name.as_slice())?;
+    if with_objects && out.len() == before {
+        put_near_object(alloc, out, program, name.as_slice())?;
+    }
+    Ok(())
+}
+
+fn put_near_client(
+    alloc: Global,
+    out: &mut Vec<u8>,
+    program: &Program,
+    word: &[u8],
+) -> Result<(), AllocError> {
+    program.keeps_sound();
+    for client in 0..program.clients() as u8 {
+        let name = program.client_name(client).as_slice();
+        if is_near(alloc, name, word)? {
+            return put_meant(out, name);
+        }
+    }
+    Ok(())
+}
+
+fn put_near_object(
+    alloc: Global,
+    out: &mut Vec<u8>,
+    program: &Program,
+    word: &[u8],
+) -> Result<(), AllocError> {
+    program.keeps_sound();
+    for object in 0..program.objects() as u8 {
+        let name = program.object_name(object).as_slice();
+        if is_near(alloc, name, word)? {
+            return put_meant(out, name);
+        }
+    }
+    Ok(())
+}
+
+fn put_meant(out: &mut Vec<u8>, name: &[u8]) -> Result<(), AllocError> {
+    put_all(out, &[b"  = help: is it `@", name, b"`?\n"])
 }
 
 fn words_of(why: Why) -> &'static [u8] {
@@ -128,8 +189,8 @@ fn words_of(why: Why) -> &'static [u8] {
     }
 }
 
-// Puts the names and the numbers of all clients, and of all objects where these may stand in the list.
-fn put_who_is_there(
+/// Puts the names and the numbers of all clients, and of all objects where these may stand in the list.
+pub(crate) fn put_who_is_there(
     out: &mut Vec<u8>,
     program: &Program,
     with_objects: bool,
@@ -150,9 +211,17 @@ fn put_clients(out: &mut Vec<u8>, program: &Program) -> Result<(), AllocError> {
         return put(out, b"none");
     }
     for client in 0..program.clients() as u8 {
-        put_one(out, client, program.client_name(client).as_slice(), b"c")?;
+        put(out, if client == 0 { b"" } else { b", " })?;
+        put_client(out, program, client)?;
     }
     Ok(())
+}
+
+/// Puts the name and the number of a client.
+pub(crate) fn put_client(out: &mut Vec<u8>, program: &Program, client: u8) -> Result<(), AllocError>
+    requires { client < length program.now.clients }
+{
+    put_one(out, program.client_name(client).as_slice(), b"c", client)
 }
 
 fn put_objects(out: &mut Vec<u8>, program: &Program) -> Result<(), AllocError> {
@@ -161,24 +230,15 @@ fn put_objects(out: &mut Vec<u8>, program: &Program) -> Result<(), AllocError> {
         return put(out, b"none");
     }
     for object in 0..program.objects() as u8 {
-        put_one(out, object, program.object_name(object).as_slice(), b"h")?;
+        put(out, if object == 0 { b"" } else { b", " })?;
+        put_one(out, program.object_name(object).as_slice(), b"h", object)?;
     }
     Ok(())
 }
 
-// Puts a name, as a list has it, and its number, after a comma where it is not the first.
-fn put_one(out: &mut Vec<u8>, number: u8, name: &[u8], letter: &[u8]) -> Result<(), AllocError> {
+// Puts a name, as a list has it, and its number.
+fn put_one(out: &mut Vec<u8>, name: &[u8], letter: &[u8], number: u8) -> Result<(), AllocError> {
     let mut buffer = itoa::Buffer::new();
-    let sign: &[u8] = if number == 0 { b"@" } else { b", @" };
-    put_all(
-        out,
-        &[
-            sign,
-            name,
-            b" (",
-            letter,
-            buffer.format(number).as_bytes(),
-            b")",
-        ],
-    )
+    let number = buffer.format(number).as_bytes();
+    put_all(out, &[b"@", name, b" (", letter, number, b")"])
 }

@@ -3,6 +3,7 @@
 ghost use Rattle.std.specs.Prelude.{◌<◌, length};
 
 use crate::line_causes::line::{LEADS, Which, put_part};
+use crate::line_causes::lists::{put_client, put_who_is_there};
 use crate::line_causes::program::program_of;
 use qs_check::Program;
 use qs_diagnosis::{put, put_all};
@@ -104,7 +105,7 @@ fn put_surplus(
         };
         if usize::from(*client) >= program.clients() {
             put_part(out, which, place, text.as_bytes(), b"names no client\n")?;
-            return put_clients(out, program);
+            return put_who_is_there(out, program, false);
         }
         let Some(blocks) = begun.get_mut(usize::from(*client)) else {
             return Ok(());
@@ -132,31 +133,12 @@ fn put_too_many(out: &mut Vec<u8>, surplus: usize) -> Result<(), AllocError> {
     )
 }
 
-fn put_clients(out: &mut Vec<u8>, program: &Program) -> Result<(), AllocError> {
-    let mut buffer = itoa::Buffer::new();
-    put_all(
-        out,
-        &[
-            b"  = help: clients: ",
-            buffer.format(program.clients()).as_bytes(),
-            b", counted from 0: the first is c0\n",
-        ],
-    )
-}
-
 fn put_blocks(out: &mut Vec<u8>, program: &Program, client: u8) -> Result<(), AllocError>
     requires { client < length program.now.clients }
 {
-    let mut first = itoa::Buffer::new();
-    let mut second = itoa::Buffer::new();
-    put_all(
-        out,
-        &[
-            b"  = help: blocks of c",
-            first.format(client).as_bytes(),
-            b": ",
-            second.format(program.blocks_of(client)).as_bytes(),
-            b"\n",
-        ],
-    )
+    put(out, b"  = help: blocks of ")?;
+    put_client(out, program, client)?;
+    let mut buffer = itoa::Buffer::new();
+    let blocks = buffer.format(program.blocks_of(client)).as_bytes();
+    put_all(out, &[b": ", blocks, b"\n"])
 }

@@ -1,8 +1,8 @@
 // What is said of a pick of nobody.
 
-use crate::causes::actors;
 use crate::line_causes::line::{Which, put_part};
-use qs_diagnosis::put_all;
+use crate::line_causes::lists::put_who_is_there;
+use crate::line_causes::program::program_of;
 use qs_line::{Who, part_of, value_after};
 use qs_played::Actor;
 use std::alloc::{AllocError, Global};
@@ -26,33 +26,18 @@ pub fn put_pick<'a>(
     words: &'a [&'a str],
     text: &[u8],
 ) -> Result<(), AllocError> {
-    let (clients, objects) = actors(alloc, text)?;
-    let Some(picks) = value_after(words, "--pick") else {
+    let (Some(picks), Some(program)) = (value_after(words, "--pick"), program_of(alloc, text))
+    else {
         return Ok(());
     };
     let mut place = 1u64;
     for part in picks.split(',') {
         let part = part.as_bytes();
-        if !is_there(part, clients, objects) {
+        if !is_there(part, program.clients(), program.objects()) {
             put_part(out, Which::only("--pick"), place, part, b"names nobody\n")?;
-            return put_counts(out, clients, objects);
+            return put_who_is_there(out, &program, true);
         }
         place = place.saturating_add(1);
     }
     Ok(())
-}
-
-fn put_counts(out: &mut Vec<u8>, clients: usize, objects: usize) -> Result<(), AllocError> {
-    let mut first = itoa::Buffer::new();
-    let mut second = itoa::Buffer::new();
-    put_all(
-        out,
-        &[
-            b"  = help: clients: ",
-            first.format(clients).as_bytes(),
-            b", objects: ",
-            second.format(objects).as_bytes(),
-            b", both counted from 0: the first are c0 and h0\n",
-        ],
-    )
 }

@@ -113,8 +113,8 @@ fn variables_of(
     Ok(None)
 }
 
-// The kind of the object that has a name, where there is one.
-fn kind_of(program: &Program, name: &[u8]) -> Option<Kind> {
+/// The kind of the object that has a name, where there is one.
+pub(crate) fn kind_of(program: &Program, name: &[u8]) -> Option<Kind> {
     program.keeps_sound();
     for object in 0..program.objects() as u8 {
         if program.object_name(object).as_slice() == name {
@@ -129,7 +129,8 @@ fn may_be_asked(op: Op) -> bool {
     op.is_query() && !matches!(op, Op::TakeFirst)
 }
 
-fn operation_of(kind: Kind, word: &[u8]) -> Option<Op> {
+/// The operation of a kind that has a word.
+pub(crate) fn operation_of(kind: Kind, word: &[u8]) -> Option<Op> {
     for op in kind.operations() {
         if op.word() == word {
             return Some(*op);

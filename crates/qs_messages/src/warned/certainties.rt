@@ -69,7 +69,8 @@ fn of_grid(rows: i64, columns: i64, op: Op, args: &[Atom]) -> Option<Certainty>
     }
 }
 
-fn certainty_of(kind: Kind, op: Op, args: &[Atom]) -> Option<Certainty>
+/// What becomes of a request on an object of a kind, where its numbers alone say it.
+pub(crate) fn certainty_of(kind: Kind, op: Op, args: &[Atom]) -> Option<Certainty>
     ensures exact { result ≡ certainty_of kind op args.now }
 {
     match kind {

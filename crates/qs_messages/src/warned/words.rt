@@ -4,6 +4,7 @@ ghost use Rattle.std.specs.Prelude.{◌≡◌, [], IfOk};
 ghost use Rattle.qs_messages.specs.Warnings.{warnings_of};
 
 use crate::causes::{Source, is_near, placed_tokens};
+use crate::warned::claims::{Asked, asked_in, some_reads};
 use crate::warned::finding::warnings;
 use crate::warned::places::{
     client_place, listed_place, object_place, request_place, variable_place,
@@ -22,6 +23,7 @@ struct Telling<'a> {
     alloc: Global,
     source: Source<'a>,
     program: &'a Program,
+    asked: Vec<Asked>,
     out: Vec<u8>,
     places: Vec<usize>,
 }
@@ -87,8 +89,8 @@ fn put_lines(out: &mut Vec<u8>, one: &[u8], several: &[u8], lines: i64) -> Resul
     }
 }
 
-// What an object takes, as help for a request that it always refuses or answers by 0.
-fn put_taken(out: &mut Vec<u8>, name: &[u8], kind: Kind) -> Result<(), AllocError> {
+/// Puts what an object takes, as help for a request that it always refuses or answers by 0.
+pub(crate) fn put_taken(out: &mut Vec<u8>, name: &[u8], kind: Kind) -> Result<(), AllocError> {
     match kind {
         Kind::Account { .. } => put(out, b"an account takes amounts from 0 to 1000000000000000"),
         Kind::Buffer { .. } => Ok(()),
@@ -135,13 +137,15 @@ impl Telling<'_> {
             return self.say(
                 self.source.len(),
                 &[b"there is no client, so nothing is done"],
-                &[b"`client ann { separate a { .. } }` is one, with a block that reserves a"],
+                &[
+                    b"`client NAME { separate OBJECT { .. } }` is one, with a block that reserves an object",
+                ],
             );
         }
         self.say(
             client_place(self.source, 0),
             &[b"no client has a block, so nothing is done"],
-            &[b"a block is written `separate a { .. }`"],
+            &[b"a block is written `separate OBJECT { .. }`"],
         )
     }
 
@@ -172,7 +176,24 @@ impl Telling<'_> {
         }
         let word = word_of(self.program.variables(client), variable);
         let place = variable_place(self.source, client, word);
+        if self.is_claimed(place, word) {
+            return Ok(());
+        }
         self.say(place, &[word, b" is assigned and never read"], &[])
+    }
+
+    // Whether a claim of the script reads the variable of a name that stands at a place, of some client with this text.
+    fn is_claimed(&self, place: usize, word: &[u8]) -> bool {
+        self.program.keeps_sound();
+        for client in 0..self.program.clients() as u8 {
+            let name = self.program.client_name(client).as_slice();
+            if some_reads(self.asked.as_slice(), name, word)
+                && variable_place(self.source, client, word) == place
+            {
+                return true;
+            }
+        }
+        false
     }
 
     fn say_unused(&mut self, client: u8, block: u8, name: u8) -> Result<(), AllocError> {
@@ -267,6 +288,7 @@ fn said_of(
         alloc,
         source,
         program,
+        asked: asked_in(alloc, source.text())?,
         out: Vec::new(alloc),
         places: Vec::new(alloc),
     };

@@ -19,7 +19,7 @@ locals_at_end p run = if run.finished then Some (configuration_after p run.order
 -- as a picture; a text marks what was refused where that is asked for, and JSON and pictures always mark it
 abbrev pub report_in : ReportFormat → (refusals counts : Bool) → ProgramShape → Played → List ℕ
 report_in report_format.Text refusals counts p played = styled_run_text refusals counts p played
-report_in report_format.Json refusals counts p played = run_json counts p played (locals_at_end p played)
+report_in report_format.Json refusals counts p played = run_json counts p played
 report_in report_format.Svg refusals counts p played = run_svg p played (locals_at_end p played)
 
 abbrev pub report_by : ReportStyle → ProgramShape → Played → List ℕ

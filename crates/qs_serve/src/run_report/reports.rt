@@ -1,7 +1,6 @@
 // The reports of runs.
 
 ghost use Rattle.std.specs.Prelude.{◌≡◌, IfOk};
-ghost use Rattle.qs_json.specs.audit.RunJson.{run_json as json_of_run};
 ghost use Rattle.qs_meaning.specs.audit.Serial.{IsLegal};
 ghost use Rattle.qs_report.specs.audit.Report.{styled_run_text};
 ghost use Rattle.qs_serve.specs.audit.RunReports.{locals_at_end, report_by};
@@ -35,20 +34,6 @@ fn report_text(
     }
 }
 
-// The report of what was played as JSON, with the variables at its end.
-fn report_json(
-    alloc: Global,
-    program: &Program,
-    played: &Played,
-    counts: bool,
-) -> Result<Vec<u8>, AllocError>
-    requires legal { IsLegal program.now played.now.order }
-    ensures text { IfOk result (λ text. text.items ≡ json_of_run counts program.now played.now (locals_at_end program.now played.now)) }
-{
-    let end = end_of(alloc, program, played)?;
-    run_json(alloc, program, played, end.as_ref(), counts)
-}
-
 // The picture of what was played, with the variables at its end.
 fn report_svg(alloc: Global, program: &Program, played: &Played) -> Result<Vec<u8>, AllocError>
     requires legal { IsLegal program.now played.now.order }
@@ -70,7 +55,7 @@ pub fn styled_report(
 {
     match style.format {
         ReportFormat::Text => report_text(alloc, program, style, played),
-        ReportFormat::Json => report_json(alloc, program, played, style.counts),
+        ReportFormat::Json => run_json(alloc, program, played, style.counts),
         ReportFormat::Svg => report_svg(alloc, program, played),
     }
 }

@@ -12,8 +12,8 @@ use Rattle.qs_json.proofs.outcomes.put_clients.Goals as goal
 pub loop-client-preserved : goal.loop-client-preserved
 loop-client-preserved c = (
   one_element_more (client_json c.args.program.now c.args.standing.now) c.loop-client.client c.loop-client.invariant.0
-      (named (ap comma_at c.from.ensures) c.in_ok-put_comma.ensures.ok) c.in_ok-put_client.ensures.ok,
-  each_place_more (λ i. AreWords (length (client_at c.args.program.now i).variables) (get_or c.args.standing.now.locals i zeros)) c.loop-client.client c.loop-client.invariant.1 c.in_ok-put_client.ensures.words,
+      (named (ap comma_at c.from.ensures) c.in_ok-put_comma.ensures.ok) (rw c.locals.ensures.locals at c.in_ok-put_client.ensures.ok),
+  each_place_more (λ i. AreWords (length (client_at c.args.program.now i).variables) (get_or c.args.standing.now.locals i zeros)) c.loop-client.client c.loop-client.invariant.1 (rw c.locals.ensures.locals at c.in_ok-put_client.ensures.words),
 )
 
 pub returns : goal.returns

@@ -1,6 +1,6 @@
 use Rattle.qs_levels.proofs.meaning.Lists.{has_at}
 use Rattle.qs_serve.specs.Due.{IsOfProgram}
-use Rattle.qs_serve.proofs.due.has_unknown.Goals as goal
+use Rattle.qs_serve.proofs.questions.has_unknown.Goals as goal
 
 pub returns-then-is_unknown-clause-unknown : goal.returns-then-is_unknown-clause-unknown
 returns-then-is_unknown-clause-unknown c = λ found.

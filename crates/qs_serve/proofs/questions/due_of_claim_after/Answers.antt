@@ -1,6 +1,6 @@
 use Rattle.qs_serial.specs.audit.NamedOrders.{order_of}
 use Rattle.qs_serve.proofs.Dues.{answer_after, answer_places}
-use Rattle.qs_serve.proofs.due.due_of_claim_after.Goals as goal
+use Rattle.qs_serve.proofs.questions.due_of_claim_after.Goals as goal
 
 pub due_of_answer-requires : goal.due_of_answer-requires
 due_of_answer-requires g c = record {

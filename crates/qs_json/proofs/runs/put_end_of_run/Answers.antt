@@ -1,5 +1,0 @@
-use Rattle.qs_text.proofs.Parts.{last, then}
-use Rattle.qs_json.proofs.runs.put_end_of_run.Goals as goal
-
-pub returns : goal.returns
-returns c = record { ok = rw c.in-Some.is (last _ _ _ (then (then c.in_ok-put_word.ensures.ok c.in_ok-put_word-2.ensures.ok) c.in_ok-put_clients.ensures.ok) c.put_word-3.ensures.ok) }
