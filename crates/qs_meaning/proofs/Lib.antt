@@ -7,6 +7,8 @@ pub mod Each
 pub mod Histories
 pub mod SerialRuns
 pub mod TraceLoads
+pub mod TextWalks
+pub mod EqualNumbers
 pub mod EqualTexts
 pub mod AlikeTraces
 mod StatesKept

@@ -10,7 +10,7 @@ pub use Rattle.std.proofs.lemmas.List.{get_or-set_other, get_or-set_same, get_or
 pub use Rattle.std.proofs.lemmas.List.{length-append, length-drop, length-map, length-replicate, length-set}
 pub use Rattle.std.proofs.lemmas.List.{length_push, map-append, map-id, map-set, map_push, nil_from_length}
 pub use Rattle.std.proofs.lemmas.List.{reverse-append, reverse-reverse, set-get_or, set_past, take_more}
-pub use Rattle.std.proofs.lemmas.List.Elements.{AllZip-get_or, AllZip-push, filter-append, length_all_zip}
+pub use Rattle.std.proofs.lemmas.List.Elements.{AllZip-push, filter-append, length_all_zip}
 pub use Rattle.std.proofs.lemmas.List.FromFn.{fill_by_all, get_or-map-range_with_len, length-map-range_with_len}
 pub use Rattle.std.proofs.lemmas.List.FromFn.{length-range_with_len, map-range_with_len_more}
 pub use Rattle.std.proofs.lemmas.List.Sums.{fold-append, sum_by-append, sum_by-cons, sum_by-le-sum_by, sum_by-set}
@@ -43,8 +43,8 @@ pub use Rattle.qs_sync_counts.specs.audit.SyncRows.{fresh_rows, no_syncs, object
 pub use Rattle.qs_sync_counts.specs.declared.sync_counts.SyncCount.{SyncCount}
 pub use Rattle.qs_program.proofs.Bounds.{block_load-whole, is_in-sum_by, sound_block}
 pub use Rattle.qs_program.specs.Sound.{IsSound, IsSoundBlock, IsSoundBody, IsSoundCall, IsSoundClient}
-pub use Rattle.qs_program.specs.Views.{single, size_of, statements_of}
-pub use Rattle.qs_program.specs.audit.Limits.{most_blocks, most_clients, most_handlers, most_objects, most_requests}
+pub use Rattle.qs_program.specs.Views.{statements_of}
+pub use Rattle.qs_program.specs.audit.Limits.{most_blocks, most_clients, most_handlers, most_objects}
 pub use Rattle.qs_program.specs.audit.Limits.{most_variables}
 pub use Rattle.qs_program.specs.audit.Loads.{load_of}
 pub use Rattle.qs_program.specs.audit.Program.{BlockShape, ClientShape, ProgramShape, block_at, block_load, blocks_of}
@@ -64,7 +64,7 @@ pub use Rattle.qs_meaning.proofs.SerialRuns.{Agrees, legal_apart, line, runs_ser
 pub use Rattle.qs_meaning.proofs.SoundTrees.{blocks_ask_only}
 pub use Rattle.qs_meaning.proofs.TreeWalks.{asks_rest, leads_call, leads_query, part_snoc_here, part_snoc_there}
 pub use Rattle.qs_meaning.proofs.TreeWalks.{put_here, put_there, unnamed}
-pub use Rattle.qs_meaning.specs.Alike.{HasValues, SameAtom, SameStatements, SameText, SameTrace, SameValues}
+pub use Rattle.qs_meaning.specs.Alike.{HasValues, SameStatements, SameText, SameTrace, SameValues}
 pub use Rattle.qs_meaning.specs.Alike.{object_name, value_at, variable_name}
 pub use Rattle.qs_meaning.specs.BlockRecords.{Begins, BlockRecord, IsBlockRecord, IsDone}
 pub use Rattle.qs_meaning.specs.Following.{AsksOnly, Leads, block_tree}
@@ -72,7 +72,7 @@ pub use Rattle.qs_meaning.specs.Serial.{SerialBlock, serial, serial_from}
 pub use Rattle.qs_meaning.specs.audit.Configurations.{Configuration, IsComplete, configuration_after}
 pub use Rattle.qs_meaning.specs.audit.Configurations.{configuration_from, first_configuration, one_block_on}
 pub use Rattle.qs_meaning.specs.audit.Following.{reserves}
-pub use Rattle.qs_meaning.specs.audit.Interaction.{Interaction, Query, meaning, tree_of}
+pub use Rattle.qs_meaning.specs.audit.Interaction.{Interaction, Query, tree_of}
 pub use Rattle.qs_meaning.specs.audit.Serial.{IsLegal, LegalFrom, declared_states, no_state, zeros}
 pub use Rattle.qs_meaning.specs.audit.Solo.{States, event, put, solo, value_of}
 pub use Rattle.qs_syncset.proofs.ShortLists.{few_reserved}

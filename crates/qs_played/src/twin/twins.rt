@@ -11,7 +11,8 @@ use crate::Played;
 use crate::twin::answer::Twin;
 use crate::twin::runs::{Reservation, text, variables};
 use crate::twin::starts::are_starts_alike;
-use crate::twin::texts::{Sides, is_same_body, is_same_object};
+use crate::twin::texts::{Sides, is_same_object};
+use qs_meaning::texts::is_same_body;
 use qs_program::Program;
 use std::alloc::{AllocError, Global};
 
