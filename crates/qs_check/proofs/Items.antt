@@ -1,7 +1,7 @@
 -- After each client the check forgets that client's variables, and this changes neither the faults that it meets later
 -- nor what it knows of the rest. The loop of `check_items` over the items of a script stands on it. Its main lemma,
 -- `forget`, goes by induction on the items: an object looks at no variables, and a client begins with none.
-use Rattle.std.proofs.Common.{◌≡◌, ℕ, suc, ◌+◌, ◌<◌, Bool, true, false, ◌||◌, nat_lt, List, [], ◌∷◌, ◌++◌, length, get_or, drop, refl, ap, sym, ◌∙◌, add-one, append_assoc, Option, Some, None, Ok, Err, if◌then◌else◌, drop-cons}
+use Rattle.std.proofs.Common.{◌≡◌, ℕ, suc, ◌+◌, ◌<◌, Bool, true, false, ◌||◌, nat_lt, List, ◌∷◌, ◌++◌, length, get_or, drop, refl, ap, sym, ◌∙◌, add-one, append_assoc, Option, Some, None, Result, Ok, Err, if◌then◌else◌, drop-cons}
 use Rattle.qs_script.specs.declared.tree.tree.KindText.{KindText}
 use Rattle.qs_script.specs.declared.tree.tree.KindText.TheVariants.{Account, Buffer, Grid}
 use Rattle.qs_script.specs.declared.tree.tree.Item.{Item}
@@ -10,18 +10,10 @@ use Rattle.qs_check.specs.declared.fault_places.fault.CheckFault.{CheckFault}
 use Rattle.qs_check.specs.declared.fault_places.fault.CheckFault.TheVariants as f
 use Rattle.qs_program.specs.audit.Numbering.{Name, is_among}
 use Rattle.qs_program.specs.audit.Limits.{most_objects}
-use Rattle.qs_check.specs.audit.fault_places.Places.{Scope, TextPlace, ScopeOrFault, number, text, fault_of_text, formal_kinds, most_templates, unless_fault, with_template, scope_or_fault, then_at, with_object, kind_of, kind_places, script_places}
-use Rattle.qs_check.specs.fault_places.Places.{over, without_variables, Fails}
+use Rattle.qs_check.specs.audit.fault_places.Places.{Scope, TextPlace, ScopeOrFault, number, text, fault_of_text, formal_kinds, most_templates, unless_fault, with_template, scope_or_fault, then_at, with_object, kind_of, kind_places, item_places, script_places}
+use Rattle.qs_check.specs.fault_places.Places.{over, without_variables, Fails, Meets}
 use Rattle.qs_check.specs.resolution.Resolve.{variable_lists}
-use Rattle.qs_check.proofs.fault_places.Walks.{met-then, fails_first}
-
--- a walk that has come from s to t, but for the variables of the clients that are over
-module _ (s t : Scope) (all left here later : List TextPlace) (so_far : over (scope_or_fault s all) ≡ over (scope_or_fault t left)) (parts : left ≡ here ++ later) where
-  pub over_fails : (fault : CheckFault) → Fails fault (scope_or_fault t here) → Fails fault (over (scope_or_fault s all))
-  over_fails fault h = λ n. so_far ∙ ap (λ ps. over (scope_or_fault t ps)) parts ∙ ap over (fails_first fault t here later h n)
-
-  pub over_goes_on : (u : Scope) → scope_or_fault t here ≡ Ok u → over (scope_or_fault s all) ≡ over (scope_or_fault u later)
-  over_goes_on u h = so_far ∙ ap (λ ps. over (scope_or_fault t ps)) parts ∙ ap over (met-then t u here later h)
+use Rattle.qs_check.proofs.fault_places.Walks.{met-then, fails_first, meets_err, parts_at}
 
 after_object : (b c : Bool) (s : Scope) (next : Scope → ScopeOrFault) → over (next s) ≡ over (next (without_variables s)) → over (then_at (if b then Err f.Twice else (if c then Ok s else Err f.Limit)) next) ≡ over (then_at (if b then Err f.Twice else (if c then Ok (without_variables s) else Err f.Limit)) next)
 after_object false true s next h = h
@@ -53,14 +45,25 @@ forget (Object o ∷ rest) s =
     (after_kind o.kind (with_object s o.name k) (script_places rest) (forget rest (with_object s o.name k)))
 forget _ s = refl
 
--- the lists of variables of the items from i on, of which the one at i is known
-pub lists_at : (xs : List Item) (i : ℕ) (item : Item) → i < length xs → item ≡ get_or xs i item → variable_lists (drop i xs) ≡ variable_lists (item ∷ drop (i + 1) xs)
-lists_at xs i item within item_is = rw (drop-cons xs i item within, add-one) (ap (λ x. variable_lists (x ∷ drop (suc i) xs)) (sym item_is))
+-- what the item x, at i, adds to a walk that has come from s to t, but for the variables of the clients that are over
+module _ (xs : List Item) (i : ℕ) (item x : Item) (within : i < length xs) (item_is : item ≡ get_or xs i item) (here : item ≡ x) where
+  module _ (s t : Scope) (so_far : over (scope_or_fault s (script_places xs)) ≡ over (scope_or_fault t (script_places (drop i xs)))) where
+    places_left : over (scope_or_fault s (script_places xs)) ≡ over (scope_or_fault t (item_places x ++ script_places (drop (i + 1) xs)))
+    places_left =
+        so_far ∙ ap (λ ps. over (scope_or_fault t ps)) (parts_at item_places xs i item within item_is ∙ ap (λ y. item_places y ++ script_places (drop (i + 1) xs)) here)
 
--- one more list of variables, where so many are left
-pub list_added : (first all vs left rest now : List (List Name)) (v : List Name) → first ++ all ≡ vs ++ left → left ≡ v ∷ rest → now ≡ vs ++ v ∷ [] → first ++ all ≡ now ++ rest
-list_added first all vs left rest now v so_far here added =
-    so_far ∙ ap (λ ls. vs ++ ls) here ∙ sym (append_assoc vs (v ∷ []) rest) ∙ ap (λ ls. ls ++ rest) (sym added)
+    pub item_fails : {X : Type 0} (r : Result X CheckFault) (e fault : CheckFault) (u : Scope) → r ≡ Err e → e ≡ fault → Fails fault (scope_or_fault t (item_places x)) → Meets r (over (scope_or_fault s (script_places xs))) u
+    item_fails r e fault u is_err same h =
+        meets_err r e fault _ u is_err same (λ n. places_left ∙ ap over (fails_first fault t (item_places x) (script_places (drop (i + 1) xs)) h n))
 
-pub list_kept : (first all vs left rest now : List (List Name)) → first ++ all ≡ vs ++ left → left ≡ rest → now ≡ vs → first ++ all ≡ now ++ rest
-list_kept first all vs left rest now so_far here same = so_far ∙ ap (λ ls. vs ++ ls) here ∙ ap (λ ls. ls ++ rest) (sym same)
+    pub item_walked : (u : Scope) → scope_or_fault t (item_places x) ≡ Ok u → over (scope_or_fault s (script_places xs)) ≡ over (scope_or_fault u (script_places (drop (i + 1) xs)))
+    item_walked u h = places_left ∙ ap over (met-then t u (item_places x) (script_places (drop (i + 1) xs)) h)
+
+  -- the lists of variables, of which the item adds some
+  pub lists_walked : (first vs own now : List (List Name)) → first ++ variable_lists xs ≡ vs ++ variable_lists (drop i xs)
+      → variable_lists (x ∷ drop (i + 1) xs) ≡ own ++ variable_lists (drop (i + 1) xs) → now ≡ vs ++ own → first ++ variable_lists xs ≡ now ++ variable_lists (drop (i + 1) xs)
+  lists_walked first vs own now so_far its added =
+      so_far ∙ ap (λ ls. vs ++ ls) (left ∙ its) ∙ sym (append_assoc vs own (variable_lists (drop (i + 1) xs))) ∙ ap (λ ls. ls ++ variable_lists (drop (i + 1) xs)) (sym added)
+    where
+      left : variable_lists (drop i xs) ≡ variable_lists (x ∷ drop (i + 1) xs)
+      left = rw (drop-cons xs i item within, add-one) (ap (λ y. variable_lists (y ∷ drop (suc i) xs)) (sym item_is ∙ here))

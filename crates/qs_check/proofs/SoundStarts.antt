@@ -27,6 +27,8 @@ use Rattle.qs_check.proofs.resolution.Scopes.{names, kinds}
 use Rattle.qs_check.proofs.Soundness.{AreStartsSound, sound_blocks}
 use Rattle.qs_check.proofs.Starts.{one_match, given_to}
 use Rattle.qs_check.proofs.TemplateTexts.{text_to, text_walked}
+use Rattle.qs_check.proofs.fault_places.Inner.{all_both}
+use Rattle.qs_check.proofs.resolution.TemplateSearch.{called_with}
 use Rattle.qs_check.proofs.resolution.TemplateFormals.{formals_scope}
 
 abbrev declared : Formal → Declared
@@ -69,25 +71,14 @@ module _ (D : List Declared) (distinct : IsDistinct same_name (names D)) where
 
 -- ---- templates that are declared before
 
-called_if : (u t : TemplateItem) (S more : List TemplateItem) (n : Name) (b : Bool) → (if b then Some u else template_called S n) ≡ Some t → (template_called S n ≡ Some t → template_called (S ++ more) n ≡ Some t) → (if b then Some u else template_called (S ++ more) n) ≡ Some t
-called_if u t S more n true h k = h
-called_if u t S more n false h k = k h
-
 pub called_more : (S more : List TemplateItem) (n : Name) (t : TemplateItem) → template_called S n ≡ Some t → template_called (S ++ more) n ≡ Some t
 called_more [] more n t h = cc
-called_more (u ∷ S) more n t h = called_if u t S more n (same_name n u.name) h (called_more S more n t)
-
-well_if : (u t : TemplateItem) (S : List TemplateItem) (n : Name) (b : Bool) → (if b then Some u else template_called S n) ≡ Some t → IsWellFormedTemplate u → (template_called S n ≡ Some t → IsWellFormedTemplate t) → IsWellFormedTemplate t
-well_if u t S n true h one more = let e : u ≡ t = cc in subst IsWellFormedTemplate e one
-well_if u t S n false h one more = more h
-
-pub well_called : (S : List TemplateItem) (n : Name) (t : TemplateItem) → AllByRecursion IsWellFormedTemplate S → template_called S n ≡ Some t → IsWellFormedTemplate t
-well_called [] n t all h = cc
-well_called (u ∷ S) n t all h = well_if u t S n (same_name n u.name) h all.0 (well_called S n t all.1)
-
-pub all_with : (S : List TemplateItem) (t : TemplateItem) → AllByRecursion IsWellFormedTemplate S → IsWellFormedTemplate t → AllByRecursion IsWellFormedTemplate (S ++ t ∷ [])
-all_with [] t h k = (k, tt)
-all_with (u ∷ S) t h k = (h.0, all_with S t h.1 k)
+called_more (u ∷ S) more n t h = by_test (same_name n u.name) (called_more S more n t) h
+  where
+    by_test : (b : Bool) → (template_called S n ≡ Some t → template_called (S ++ more) n ≡ Some t)
+        → (if b then Some u else template_called S n) ≡ Some t → (if b then Some u else template_called (S ++ more) n) ≡ Some t
+    by_test true later e = e
+    by_test false later e = later e
 
 -- ---- objects that are declared later change nothing
 
@@ -108,13 +99,13 @@ module _ (D : List Declared) (T : List TemplateItem) (distinct : IsDistinct same
       starts_sound rest (E ++ d ∷ []) S (e ∙ sym (append_assoc E (d ∷ []) (objects_of rest))) f all h
   starts_sound (Client c ∷ rest) E S e f all (one, h) = starts_sound rest E S e f all h
   starts_sound (Template t ∷ rest) E S e f all (one, h) =
-      starts_sound rest E (S ++ t ∷ []) e (f ∙ sym (append_assoc S (t ∷ []) (templates_in rest))) (all_with S t all one) h
+      starts_sound rest E (S ++ t ∷ []) e (f ∙ sym (append_assoc S (t ∷ []) (templates_in rest))) (all_both IsWellFormedTemplate S (t ∷ []) all (one, tt)) h
   starts_sound (Started c ∷ rest) E S e f all (one, h) =
       let called : template_called T c.template ≡ Some one.template =
       ap (λ ts. template_called ts c.template) f ∙ called_more S (templates_in rest) c.template one.template one.called in
       let P : List Declared → Type 0 = λ os. AreGiven os one.template.formals c.objects in
       let given : P D = subst P (sym e) (given_more E (objects_of rest) one.template.formals c.objects one.objects) in
       let Q : Option TemplateItem → Type 0 = λ r. IsSoundClient D (started_of (names D) r c) in (
-        subst Q (sym called) (sound_start D distinct one.template c (well_called S c.template one.template all one.called) given),
+        subst Q (sym called) (sound_start D distinct one.template c (called_with IsWellFormedTemplate S c.template one.template all one.called) given),
         starts_sound rest E S e f all h,
       )

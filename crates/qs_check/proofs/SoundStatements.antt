@@ -30,7 +30,7 @@ use Rattle.qs_program.proofs.Found.{found_small}
 use Rattle.qs_program.specs.audit.Limits.{most_variables}
 use Rattle.qs_check.proofs.fault_places.Inner.{Inner, kept, parted, inner_body, inner_call, inner_expr, inner_test}
 use Rattle.qs_check.proofs.resolution.Scopes.{kinds, names}
-use Rattle.qs_check.proofs.fault_places.Steps.{split}
+use Rattle.qs_check.proofs.fault_places.Steps.{next_scope, split}
 
 -- an operation that is known is one of the kind, and a query where one is asked
 abbrev Suits : Bool → Kind → Op → Type 0
@@ -101,16 +101,14 @@ module _ (D : List Declared) where
         let o = c.object in
         let n = length c.args in
         let a = split s t (target o) (operation asks o c.op ∷ arguments asks o c.op n ∷ atoms_places c.args) h in
-        let b = split a.0 t (operation asks o c.op) (arguments asks o c.op n ∷ atoms_places c.args) a.2 in
-        let d = split b.0 t (arguments asks o c.op n) (atoms_places c.args) b.2 in
-        let known = here.0 o a.1.0 in
+        let b = split s t (operation asks o c.op) (arguments asks o c.op n ∷ atoms_places c.args) a.1 in
+        let known = here.0 o a.0.0 in
         let op_is : op_at (names D) (kinds D) asks o c.op ≡ op_at s.objects s.kinds asks o c.op = ap (λ k. op_of asks k c.op) known.1 in
-        let at_s : b.0 ≡ s = b.1.1 ∙ a.1.2 in
-        let is_op : is_known (op_at (names D) (kinds D) asks o c.op) ≡ true = ap is_known op_is ∙ ap (λ u. is_known (op_at u.objects u.kinds asks o c.op)) (sym a.1.2) ∙ b.1.0 in
-        let fit : takes (op_at (names D) (kinds D) asks o c.op) n ≡ true = ap (λ x. takes x n) op_is ∙ ap (λ u. takes (op_at u.objects u.kinds asks o c.op) n) (sym at_s) ∙ d.1.0 in
+        let is_op : is_known (op_at (names D) (kinds D) asks o c.op) ≡ true = ap is_known op_is ∙ b.0 in
+        let fit : takes (op_at (names D) (kinds D) asks o c.op) n ≡ true = ap (λ x. takes x n) op_is ∙ (split s t (arguments asks o c.op n) (atoms_places c.args) b.1).0 in
         let good = suits asks (slice_index_or (kinds D) (found_at (names D) o) (Account (pos 0))) c.op is_op in
         record {
-          reserves = here.1 o a.1.1;
+          reserves = here.1 o a.0.1;
           kind = ap (fits (op_or_refused (op_at (names D) (kinds D) asks o c.op))) (kind_at D (found_at (names D) o)) ∙ good.0;
           query = good.1;
           arity = length-map c.args (atom_of V) ∙ taken (op_at (names D) (kinds D) asks o c.op) n fit;
@@ -125,11 +123,10 @@ module _ (D : List Declared) where
     sound_body (tree.query x c rest) inside s t here h =
         let w = parted s t (variable x ∷ call_places true c) (places inside rest) h in
         let v = split s w.0 (variable x) (call_places true c) w.1 in
-        let here_v : Here v.0 = let P : Scope → Type 0 = λ u. Here u in subst P (sym v.1.0) here in
-        (found_small V x few, sound_call true c v.0 w.0 here_v v.2, sound_body rest inside w.0 t (here_after s w.0 (variable x ∷ call_places true c) (inner_call true c) w.1 here) w.2)
+        (found_small V x few, sound_call true c (next_scope s (variable x)) w.0 here v.1, sound_body rest inside w.0 t (here_after s w.0 (variable x ∷ call_places true c) (tt, inner_call true c) w.1 here) w.2)
     sound_body (tree.assign x e rest) inside s t here h =
         let w = parted s t (variable x ∷ expr_places e) (places inside rest) h in
-        (found_small V x few, sound_expr e, sound_body rest inside w.0 t (here_after s w.0 (variable x ∷ expr_places e) (inner_expr e) w.1 here) w.2)
+        (found_small V x few, sound_expr e, sound_body rest inside w.0 t (here_after s w.0 (variable x ∷ expr_places e) (tt, inner_expr e) w.1 here) w.2)
     sound_body (tree.choose q first rest) inside s t here h =
         let a = parted s t (test_places q) (places inside first ++ places inside rest) h in
         let b = parted a.0 t (places inside first) (places inside rest) a.2 in
@@ -147,9 +144,5 @@ module _ (D : List Declared) where
     sound_body (tree.again n body rest) inside s t here h =
         let w = parted s t (number 0 1000 n ∷ places true body) (places inside rest) h in
         let v = split s w.0 (number 0 1000 n) (places true body) w.1 in
-        let here_v : Here v.0 = let P : Scope → Type 0 = λ u. Here u in subst P (sym v.1.2) here in
-        (v.1.1, sound_body body true v.0 w.0 here_v v.2, sound_body rest inside w.0 t (here_after s w.0 (number 0 1000 n ∷ places true body) (inner_body true body) w.1 here) w.2)
-    sound_body (tree.leave rest) inside s t here h =
-        let v = split s t (leaves inside) (places inside rest) h in
-        let here_v : Here v.0 = let P : Scope → Type 0 = λ u. Here u in subst P (sym v.1) here in
-        sound_body rest inside v.0 t here_v v.2
+        (v.0.1, sound_body body true s w.0 here v.1, sound_body rest inside w.0 t (here_after s w.0 (number 0 1000 n ∷ places true body) (tt, inner_body true body) w.1 here) w.2)
+    sound_body (tree.leave rest) inside s t here h = sound_body rest inside s t here (split s t (leaves inside) (places inside rest) h).1

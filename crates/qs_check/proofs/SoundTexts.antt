@@ -31,7 +31,9 @@ use Rattle.qs_program.specs.audit.Limits.{most_requests, most_steps}
 use Rattle.qs_check.proofs.resolution.Resolving.{levels_same}
 use Rattle.qs_check.proofs.binding.BoundTexts.{formed_bounds}
 use Rattle.qs_check.proofs.Soundness.{sound}
-use Rattle.qs_check.proofs.SoundStarts.{all_with, called_more, starts_sound, well_called}
+use Rattle.qs_check.proofs.SoundStarts.{called_more, starts_sound}
+use Rattle.qs_check.proofs.fault_places.Inner.{all_both}
+use Rattle.qs_check.proofs.resolution.TemplateSearch.{called_with}
 use Rattle.qs_check.proofs.TextNames.{distinct_variables, among_variables}
 use Rattle.qs_check.proofs.TextRequests.{all_first, all_later}
 use Rattle.qs_check.proofs.WellFormed.{ends_well, no_fault_left, well_formed_from, within_limits}
@@ -149,12 +151,12 @@ clients_formed (Client c ∷ rest) D T S N K f well (one, h) =
       clients_formed rest D T S N K f well h,
     )
 clients_formed (Template c ∷ rest) D T S N K f well (one, h) =
-    clients_formed rest D T (S ++ c ∷ []) N K (f ∙ sym (append_assoc S (c ∷ []) (templates_in rest))) (all_with S c well one) h
+    clients_formed rest D T (S ++ c ∷ []) N K (f ∙ sym (append_assoc S (c ∷ []) (templates_in rest))) (all_both IsWellFormedTemplate S (c ∷ []) well (one, tt)) h
 clients_formed (Started c ∷ rest) D T S N K f well (one, h) =
     let called : template_called T c.template ≡ Some one.template =
     ap (λ ts. template_called ts c.template) f ∙ called_more S (templates_in rest) c.template one.template one.called in
     let Q : Option TemplateItem → Type 0 = λ r. IsFormedClient (started_of N r c) in (
-      subst Q (sym called) (formed_start N one.template c (well_called S c.template one.template well one.called)),
+      subst Q (sym called) (formed_start N one.template c (called_with IsWellFormedTemplate S c.template one.template well one.called)),
       clients_formed rest D T S N K f well h,
     )
 

@@ -1,7 +1,7 @@
 -- A client of a template is walked without a fault exactly where its template is declared before it, and each object
 -- that is given is declared and of its formal's kind. The proof that well-formed scripts are those without a fault
 -- needs both directions. Both go by induction on the formals, beside the objects that are given for them.
-use Rattle.std.proofs.Common.{◌≡◌, ℕ, suc, ◌<◌, Bool, true, false, ◌||◌, nat_eq, List, [], ◌∷◌, ◌++◌, length, get_or, slice_index_or, Option, Some, None, refl, ap, sym, ◌∙◌, subst, arith, Ok, Err, pos, if◌then◌else◌, eq-eqb}
+use Rattle.std.proofs.Common.{◌≡◌, ℕ, suc, ◌<◌, Bool, true, false, ◌||◌, List, [], ◌∷◌, ◌++◌, length, get_or, slice_index_or, Option, Some, None, refl, ap, sym, ◌∙◌, subst, arith, pos, if◌then◌else◌}
 use Rattle.std.proofs.lemmas.List.{length-map}
 use Rattle.std.specs.List.{IsDistinct, position_or_len}
 use Rattle.qs_objects.specs.declared.object.Kind.{Kind}
@@ -13,11 +13,10 @@ use Rattle.qs_program.specs.declared.program.Declared.{Declared}
 use Rattle.qs_program.specs.audit.Kinds.{same_kind}
 use Rattle.qs_program.specs.audit.Numbering.{Name, same_name, is_among, found_at}
 use Rattle.qs_program.proofs.Found.{found_is, found_within, name_at}
-use Rattle.qs_check.specs.declared.fault_places.fault.CheckFault.TheVariants as f
-use Rattle.qs_check.specs.audit.fault_places.Places.{Scope, TextPlace, scope_or_fault, given, starts, formal_kind, formal_kinds, formals_at, given_places, is_given, kind_in}
+use Rattle.qs_check.specs.audit.fault_places.Places.{Scope, TextPlace, scope_or_fault, given, starts, formal_kind, formal_kinds, formals_at, given_places, kind_in}
 use Rattle.qs_check.specs.audit.resolution.Resolve.{template_called}
 use Rattle.qs_check.specs.WellFormed.{AreGiven, IsGiven, IsWellFormedStart}
-use Rattle.qs_check.proofs.fault_places.FinePlaces.{then_step, leads}
+use Rattle.qs_check.proofs.fault_places.Steps.{onward}
 use Rattle.qs_check.proofs.Scripts.{AllMatch}
 use Rattle.qs_check.proofs.resolution.Scopes.{names, kinds, scope, template_names, template_formals}
 use Rattle.qs_check.proofs.TextRequests.{among_at, at_number, found_only, place_here, place_later}
@@ -51,13 +50,13 @@ called T n h =
     let w = called_at T n h in
     (w.0, w.1, ap (λ i. slice_index_or (template_formals T) i []) (found_is (same_name n) (template_names T) h) ∙ w.2)
 
-among_by : (u t : TemplateItem) (T : List TemplateItem) (n : Name) (b : Bool) → (if b then Some u else template_called T n) ≡ Some t → (template_called T n ≡ Some t → is_among (template_names T) n ≡ true) → (b || is_among (template_names T) n) ≡ true
-among_by u t T n true h more = refl
-among_by u t T n false h more = more h
-
 pub called_among : (T : List TemplateItem) (n : Name) (t : TemplateItem) → template_called T n ≡ Some t → is_among (template_names T) n ≡ true
 called_among [] n t h = cc
-called_among (u ∷ T) n t h = among_by u t T n (same_name n u.name) h (called_among T n t)
+called_among (u ∷ T) n t h = by_test (same_name n u.name) (called_among T n t) h
+  where
+    by_test : (b : Bool) → (template_called T n ≡ Some t → is_among (template_names T) n ≡ true) → (if b then Some u else template_called T n) ≡ Some t → (b || is_among (template_names T) n) ≡ true
+    by_test true later e = refl
+    by_test false later e = later e
 
 -- ---- objects for formals
 
@@ -127,17 +126,13 @@ module _ (D : List Declared) (T : List TemplateItem) where
       }
 
   module _ (C : List Name) (distinct : IsDistinct same_name (names D)) where
-    here : Scope
+    abbrev here : Scope
     here = scope D T C 0 [] []
 
-    given_met : (n : Name) (i : ℕ) (os : List Name) (ps : List TextPlace) → AllMatch (names D) (kinds D) (formals_at (template_names T) (template_formals T) n) i os → scope_or_fault (scope D T C 0 [] []) (given_places n i os ++ ps) ≡ scope_or_fault (scope D T C 0 [] []) ps
+    given_met : (n : Name) (i : ℕ) (os : List Name) (ps : List TextPlace) → AllMatch (names D) (kinds D) (formals_at (template_names T) (template_formals T) n) i os → scope_or_fault here (given_places n i os ++ ps) ≡ scope_or_fault here ps
     given_met n i [] ps h = refl
     given_met n i (o ∷ os) ps h =
-        let s = scope D T C 0 [] [] in
-        leads s s (given n i o) (given_places n (suc i) os ++ ps) (scope_or_fault s ps)
-        (then_step (is_among (names D) o) s (if is_given s n i o then Ok s else Err f.OtherKind) f.UnknownObject h.0.0
-        ∙ then_step (is_given s n i o) s (Ok s) f.OtherKind h.0.1)
-        (given_met n (suc i) os ps h.1)
+        onward here (given n i o) (given_places n (suc i) os ++ ps) (scope_or_fault here ps) h.0 (given_met n (suc i) os ps h.1)
 
     same_template : (t u : TemplateItem) (r : Option TemplateItem) → r ≡ Some t → r ≡ Some u → t ≡ u
     same_template t u None p q = cc
@@ -145,7 +140,6 @@ module _ (D : List Declared) (T : List TemplateItem) where
 
     pub started_met : (c : StartedItem) → IsWellFormedStart T D c → (ps : List TextPlace) → scope_or_fault (scope D T C 0 [] []) (starts c.template (length c.objects) ∷ (given_places c.template 0 c.objects ++ ps)) ≡ scope_or_fault (scope D T C 0 [] []) ps
     started_met c well ps =
-        let s = scope D T C 0 [] [] in
         let n = c.template in
         let known = called_among T n well.template well.called in
         let w = called T n known in
@@ -154,7 +148,5 @@ module _ (D : List Declared) (T : List TemplateItem) where
         let g = given_to D distinct well.template.formals c.objects well.objects in
         let count : length (formals_at (template_names T) (template_formals T) n) ≡ length c.objects = ap length formals ∙ length-kinds well.template.formals ∙ g.0 in
         let P : List Kind → Type 0 = λ ks. AllMatch (names D) (kinds D) ks 0 c.objects in
-        leads s s (starts n (length c.objects)) (given_places n 0 c.objects ++ ps) (scope_or_fault s ps)
-        (then_step (is_among (template_names T) n) s (if nat_eq (length (formals_at (template_names T) (template_formals T) n)) (length c.objects) then Ok s else Err f.Count) f.UnknownTemplate known
-        ∙ then_step (nat_eq (length (formals_at (template_names T) (template_formals T) n)) (length c.objects)) s (Ok s) f.Count (eq-eqb _ _ count))
+        onward here (starts n (length c.objects)) (given_places n 0 c.objects ++ ps) (scope_or_fault here ps) (known, count)
         (given_met n 0 c.objects ps (subst P (sym formals) g.1))

@@ -1,28 +1,27 @@
 -- A template's formals and blocks are walked by themselves without a fault exactly where the template is well formed.
 -- The proof that well-formed scripts are those without a fault needs both directions. Formals are walked as objects, by
 -- induction on their list; then the blocks are those of a client that has these objects.
-use Rattle.std.proofs.Common.{◌≡◌, ℕ, ◌+◌, ◌<◌, ◌≤◌, false, true, nat_lt, List, [], ◌∷◌, ◌++◌, length, None, refl, ap, sym, ◌∙◌, subst, arith, append_assoc, append-nil, Ok, Err, if◌then◌else◌, lt-ltb}
+use Rattle.std.proofs.Common.{◌≡◌, ℕ, ◌+◌, ◌<◌, ◌≤◌, true, List, [], ◌∷◌, ◌++◌, length, None, refl, ap, sym, ◌∙◌, subst, arith, append_assoc, append-nil, Ok, Err}
 use Rattle.std.proofs.lemmas.Map.Made.{is_member-Decides}
 use Rattle.std.specs.List.{AllByRecursion, IsDistinct}
-use Rattle.std.proofs.lemmas.List.{length_push}
+use Rattle.std.proofs.lemmas.List.{length-map, length_push, map-append}
 use Rattle.qs_script.specs.tree.Form.{IsFormed}
 use Rattle.qs_script.specs.declared.tree.tree.Block.{Block}
 use Rattle.qs_script.specs.declared.tree.tree.Formal.{Formal}
 use Rattle.qs_script.specs.declared.tree.tree.TemplateItem.{TemplateItem}
 use Rattle.qs_program.specs.declared.program.Declared.{Declared}
-use Rattle.qs_program.specs.audit.Limits.{most_objects, most_variables}
+use Rattle.qs_program.specs.audit.Limits.{most_blocks, most_objects, most_variables}
 use Rattle.qs_program.specs.Limits.{most_formals}
 use Rattle.qs_program.specs.audit.Numbering.{Name, same_name, is_among}
-use Rattle.qs_check.specs.declared.fault_places.fault.CheckFault.TheVariants as f
-use Rattle.qs_check.specs.audit.fault_places.Places.{Scope, ScopeOrFault, object, scope_or_fault, start, fault_in, fault_of_text, formal_kind, formal_kinds, formals_places, blocks_places, text_places, with_object, with_template}
+use Rattle.qs_check.specs.audit.fault_places.Places.{Scope, ScopeOrFault, object, scope_or_fault, start, fault_in, fault_of_text, formal_kind, formal_kinds, formals_places, blocks_places, text_places, with_template}
 use Rattle.qs_check.specs.audit.fault_places.Variables.{variables_of}
 use Rattle.qs_check.specs.audit.resolution.Resolve.{as_client, declared_formals}
 use Rattle.qs_check.specs.WellFormed.{IsDeclared, IsWellFormedBlock, IsWellFormedTemplate}
-use Rattle.qs_check.proofs.fault_places.FinePlaces.{then_step, else_step, again, leads}
+use Rattle.qs_check.proofs.fault_places.FinePlaces.{again}
 use Rattle.qs_check.proofs.fault_places.Inner.{parted}
-use Rattle.qs_check.proofs.fault_places.ScopesInBlocks.{blocks_stay}
+use Rattle.qs_check.proofs.fault_places.ScopesInBlocks.{none_yet, limits_met, blocks_stay}
 use Rattle.qs_check.proofs.resolution.Scopes.{names, kinds, scope, template_names, template_formals, names_with, grown}
-use Rattle.qs_check.proofs.fault_places.Steps.{variables_met}
+use Rattle.qs_check.proofs.fault_places.Steps.{onward, variables_met}
 use Rattle.qs_check.proofs.TextBlocks.{IsRight, blocks_from, blocks_to}
 use Rattle.qs_check.proofs.resolution.FreshNames.{Fresh, fresh_rest, unseen}
 use Rattle.qs_check.proofs.TextNames.{count_variables}
@@ -32,12 +31,10 @@ use Rattle.qs_check.proofs.fault_places.Walks.{met-then}
 
 -- one more template
 pub template_names_with : (T : List TemplateItem) (t : TemplateItem) → template_names T ++ t.name ∷ [] ≡ template_names (T ++ t ∷ [])
-template_names_with [] t = refl
-template_names_with (u ∷ T) t = ap (λ ns. u.name ∷ ns) (template_names_with T t)
+template_names_with T t = sym (map-append (λ (u : TemplateItem). u.name) T (t ∷ []))
 
 formals_with : (T : List TemplateItem) (t : TemplateItem) → template_formals T ++ formal_kinds t.formals ∷ [] ≡ template_formals (T ++ t ∷ [])
-formals_with [] t = refl
-formals_with (u ∷ T) t = ap (λ ks. formal_kinds u.formals ∷ ks) (formals_with T t)
+formals_with T t = sym (map-append (λ (u : TemplateItem). formal_kinds u.formals) T (t ∷ []))
 
 pub with_last : (D : List Declared) (T : List TemplateItem) (C : List Name) (n : ℕ) (V R : List Name) (t : TemplateItem) → with_template (scope D T C n V R) t.name (formal_kinds t.formals) ≡ scope D (T ++ t ∷ []) C n V R
 with_last D T C n V R t = λ i. record { objects = names D; kinds = kinds D; clients = C; templates = template_names_with T t i; formals = formals_with T t i; blocks = n; variables = V; reserved = R }
@@ -71,17 +68,18 @@ formals_to (x ∷ fs) D fresh few =
     let s = formals_scope D in
     let w = fresh_rest (names D) x.name (formal_names fs) fresh in
     let E = D ++ declared x ∷ [] in
-    let u = with_object s x.name (formal_kind x.kind) in
     let Q : List Name → Type 0 = λ ns. Fresh ns (formal_names fs) in
     let with_name = names_with D (declared x) in
     let room : length (names D) < most_objects = omega arith in
     let fewer : length (names E) + length fs ≤ most_objects = omega (arith, few, ap length (sym with_name), length_push (names D) x.name) in
-    leads s u (object x.name (formal_kind x.kind)) (formals_places fs) (Ok (formals_scope (D ++ declared_formals (x ∷ fs))))
-    (else_step (is_among (names D) x.name) (if nat_lt (length (names D)) most_objects then Ok u else Err f.Limit) f.Twice w.0
-    ∙ then_step (nat_lt (length (names D)) most_objects) s (Ok u) f.Limit (lt-ltb (length (names D)) 8 room))
+    onward s (object x.name (formal_kind x.kind)) (formals_places fs) (Ok (formals_scope (D ++ declared_formals (x ∷ fs)))) (w.0, room)
     (ap (λ v. scope_or_fault v (formals_places fs)) (grown D [] [] 0 [] [] (declared x))
     ∙ formals_to fs E (subst Q with_name w.1) fewer
     ∙ ap (λ F. Ok (formals_scope F)) (append_assoc D (declared x ∷ []) (declared_formals fs)))
+
+formal_names_same : (fs : List Formal) → names (declared_formals fs) ≡ formal_names fs
+formal_names_same [] = refl
+formal_names_same (x ∷ fs) = ap (λ ns. x.name ∷ ns) (formal_names_same fs)
 
 -- ---- the text of a template
 
@@ -96,6 +94,7 @@ pub record TextWalked (t : TemplateItem) : Type 0 where
   pub fresh : Fresh [] (formal_names t.formals)
   pub few_formals : length t.formals ≤ most_formals
   pub few_variables : length (variables_of (as_client t)) ≤ most_variables
+  pub few_blocks : length t.blocks ≤ most_blocks
   pub all : scope_or_fault start (text_places t) ≡ Ok last
 
 pub text_walked : (t : TemplateItem) (u : Scope) → scope_or_fault start (text_places t) ≡ Ok u → TextWalked t
@@ -104,13 +103,14 @@ text_walked t u h =
     let g = formals_from t.formals [] w.0 w.1 in
     let s = formals_scope (declared_formals t.formals) in
     let walk = again s u w.0 (blocks_places t.blocks) g.0 w.2 in
-    let small : length u.variables ≤ most_variables = (blocks_stay s u t.blocks walk).few (omega arith) in
+    let limits = limits_met start u (text_places t) h none_yet in
     record {
       last = u;
       walk = walk;
       fresh = g.1;
-      few_formals = omega (arith, g.2 (omega arith));
-      few_variables = rw (← variables_met s u (blocks_places t.blocks) walk) small;
+      few_formals = omega (arith, limits.objects, ap (λ v. length v.objects) (blocks_stay s u t.blocks walk), ap length (formal_names_same t.formals), length-map t.formals (λ (x : Formal). x.name));
+      few_variables = rw (← variables_met s u (blocks_places t.blocks) walk) limits.variables;
+      few_blocks = omega (arith, limits.blocks, ap (λ v. v.blocks) (blocks_stay s u t.blocks walk));
       all = h;
     }
 
@@ -123,15 +123,11 @@ template_from t form h =
       formals = w.few_formals;
       apart = w.fresh.1;
       client = record {
-        blocks = omega (arith, (blocks_stay (formals_scope F) w.last t.blocks w.walk).count (omega arith));
+        blocks = w.few_blocks;
         variables = omega (arith, w.few_variables, count_variables (as_client t));
         each = well_blocks F t.blocks (blocks_from F [] [] t.blocks 0 [] [] w.last w.walk) form;
       };
     }
-
-formal_names_same : (fs : List Formal) → names (declared_formals fs) ≡ formal_names fs
-formal_names_same [] = refl
-formal_names_same (x ∷ fs) = ap (λ ns. x.name ∷ ns) (formal_names_same fs)
 
 pub formals_apart : (t : TemplateItem) → IsWellFormedTemplate t → IsDistinct same_name (names (declared_formals t.formals))
 formals_apart t well = let P : List Name → Type 0 = λ ns. IsDistinct same_name ns in subst P (sym (formal_names_same t.formals)) well.apart

@@ -1,21 +1,20 @@
 -- Blocks are walked without a fault exactly where they are right: their lists, their statements, their number and their
 -- variables.
-use Rattle.std.proofs.Common.{◌≡◌, ℕ, ◌+◌, ◌<◌, ◌≤◌, true, false, nat_lt, List, [], ◌∷◌, ◌++◌, length, refl, ap, sym, ◌∙◌, arith, append_assoc, append-nil, Ok, Err, if◌then◌else◌, lt-ltb}
+use Rattle.std.proofs.Common.{◌≡◌, ℕ, ◌+◌, ◌<◌, ◌≤◌, true, false, List, [], ◌∷◌, ◌++◌, length, refl, ap, sym, ◌∙◌, arith, append_assoc, append-nil, Ok}
 use Rattle.std.specs.List.{AllByRecursion, IsDistinct}
 use Rattle.qs_script.specs.declared.tree.tree.Block.{Block}
 use Rattle.qs_script.specs.declared.tree.tree.TemplateItem.{TemplateItem}
-use Rattle.qs_check.specs.declared.fault_places.fault.CheckFault.TheVariants as f
 use Rattle.qs_program.specs.declared.program.Declared.{Declared}
 use Rattle.qs_program.specs.audit.Numbering.{Name, same_name, is_among, with_name}
 use Rattle.qs_program.specs.audit.Limits.{most_blocks, most_variables}
 use Rattle.qs_check.specs.audit.fault_places.Places.{Scope, listed, separate, scope_or_fault, places, listed_places, block_places, blocks_places, with_listed}
 use Rattle.qs_check.specs.audit.fault_places.Variables.{variables_at}
 use Rattle.qs_check.specs.WellFormed.{AreStatements, variables_in_all}
-use Rattle.qs_check.proofs.fault_places.FinePlaces.{then_step, else_step, again, leads, named_more, are_fine, fine_met}
+use Rattle.qs_check.proofs.fault_places.FinePlaces.{again, named_more, are_fine, fine_met}
 use Rattle.qs_check.proofs.fault_places.Inner.{parted, inner_body, kept}
 use Rattle.qs_check.proofs.resolution.Scopes.{names, scope}
-use Rattle.qs_check.proofs.Soundness.{with_list, listed_first, list_kept}
-use Rattle.qs_check.proofs.fault_places.Steps.{with_names, split, variables_met}
+use Rattle.qs_check.proofs.Soundness.{with_list, list_kept}
+use Rattle.qs_check.proofs.fault_places.Steps.{with_names, onward, split, variables_met}
 use Rattle.qs_check.proofs.TextNames.{all_named, variables_at-append, tell_list, tell_blocks}
 use Rattle.qs_check.proofs.resolution.FreshNames.{Fresh, fresh_more, fresh_rest, no_fresh, unseen}
 use Rattle.qs_check.proofs.TextRequests.{statements_from, statements_to}
@@ -24,19 +23,17 @@ use Rattle.qs_check.proofs.fault_places.Walks.{met-then}
 -- a block's list
 list_from : (ns : List Name) (s t : Scope) → scope_or_fault s (listed_places ns) ≡ Ok t → AllByRecursion (λ o. is_among s.objects o ≡ true) ns
 list_from [] s t h = tt
-list_from (n ∷ ns) s t h = let w = listed_first s t n ns h in (w.0, list_from ns (with_listed s n) t w.2)
+list_from (n ∷ ns) s t h = let w = split s t (listed n) (listed_places ns) h in (w.0.0, list_from ns (with_listed s n) t w.1)
 
 list_fresh : (ns : List Name) (s t : Scope) → scope_or_fault s (listed_places ns) ≡ Ok t → Fresh s.reserved ns
 list_fresh [] s t h = no_fresh s.reserved
-list_fresh (n ∷ ns) s t h = let w = listed_first s t n ns h in fresh_more s.reserved n ns w.1 (list_fresh ns (with_listed s n) t w.2)
+list_fresh (n ∷ ns) s t h = let w = split s t (listed n) (listed_places ns) h in fresh_more s.reserved n ns w.0.1 (list_fresh ns (with_listed s n) t w.1)
 
 list_to : (ns : List Name) (s : Scope) → AllByRecursion (λ o. is_among s.objects o ≡ true) ns → Fresh s.reserved ns → scope_or_fault s (listed_places ns) ≡ Ok (with_list s (s.reserved ++ ns))
 list_to [] s h k = ap (λ r. Ok (with_list s r)) (sym (append-nil s.reserved))
 list_to (n ∷ ns) s h k =
     let w = fresh_rest s.reserved n ns k in
-    leads s (with_listed s n) (listed n) (listed_places ns) _
-    (then_step (is_among s.objects n) s (if is_among s.reserved n then Err f.ReservedTwice else Ok (with_listed s n)) f.UnknownObject h.0
-    ∙ else_step (is_among s.reserved n) (Ok (with_listed s n)) f.ReservedTwice w.0)
+    onward s (listed n) (listed_places ns) _ (h.0, w.0)
     (list_to ns (with_listed s n) h.1 w.1 ∙ ap (λ r. Ok (with_list s r)) (append_assoc s.reserved (n ∷ []) ns))
 
 -- a block that is right: its list has declared objects and none twice, and its statements are right
@@ -62,7 +59,7 @@ module _ (D : List Declared) (T : List TemplateItem) (C : List Name) where
       body_met : (scope_or_fault scope_in_block (listed_places b.reserved) ≡ Ok listing) × (scope_or_fault listing (places false b.body) ≡ Ok t)
       body_met =
           let w = split (scope D T C n V R) t separate (listed_places b.reserved ++ places false b.body) h in
-          let v = parted scope_in_block t (listed_places b.reserved) (places false b.body) (again scope_in_block t w.0 (listed_places b.reserved ++ places false b.body) w.1.1 w.2) in
+          let v = parted scope_in_block t (listed_places b.reserved) (places false b.body) w.1 in
           let e : v.0 ≡ listing = list_kept b.reserved scope_in_block v.0 v.1 in
           (v.1 ∙ ap (λ u. Ok u) e, again listing t v.0 (places false b.body) e v.2)
 
@@ -88,8 +85,7 @@ module _ (D : List Declared) (T : List TemplateItem) (C : List Name) where
           let names_are = block_variables V b in
           let small : length (variables_at V (places false b.body)) ≤ most_variables = omega (arith, few, ap length names_are) in
           let body = fine_met listing (places false b.body) (inner_body false b.body) (statements_to D b.reserved distinct false b.body right.statements) small in
-          leads (scope D T C n V R) scope_in_block separate (listed_places b.reserved ++ places false b.body) _
-          (then_step (nat_lt n most_blocks) scope_in_block (Ok scope_in_block) f.Limit (lt-ltb n 64 room))
+          onward (scope D T C n V R) separate (listed_places b.reserved ++ places false b.body) _ room
           (met-then scope_in_block listing (listed_places b.reserved) (places false b.body) list_met ∙ body ∙ ap (λ v. Ok (with_names listing v)) (sym names_are))
 
   pub blocks_from : (bs : List Block) (n : ℕ) (V R : List Name) (t : Scope) → scope_or_fault (scope D T C n V R) (blocks_places bs) ≡ Ok t → AllByRecursion (IsRight D) bs

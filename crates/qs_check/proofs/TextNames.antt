@@ -7,7 +7,7 @@ use Rattle.std.proofs.lemmas.Cmp.{nat_list_eq_equiv}
 use Rattle.std.proofs.lemmas.List.Folds.{list_any-append}
 use Rattle.std.proofs.lemmas.Map.Made.{length-from_keys}
 use Rattle.std.specs.Cmp.Lexicographic.{same_text}
-use Rattle.std.specs.List.{AllByRecursion, IsDistinct}
+use Rattle.std.specs.List.{IsDistinct}
 use Rattle.std.specs.Set.{distinct_count}
 use Rattle.std.proofs.lemmas.Bool.{or_parts}
 use mathlib.Core.Bool.{or-false}
@@ -21,8 +21,9 @@ use Rattle.qs_script.specs.declared.tree.tree.Block.{Block}
 use Rattle.qs_script.specs.declared.tree.tree.ClientItem.{ClientItem}
 use Rattle.qs_script.specs.audit.tree.Tree as tree
 use Rattle.qs_program.specs.audit.Numbering.{Name, same_name, is_among, with_name}
-use Rattle.qs_check.specs.audit.fault_places.Places.{TextPlace, object, number, client, separate, listed, target, operation, arguments, variable, leaves, template, text, starts, given, places, atom_places, atoms_places, expr_places, test_places, call_places, listed_places, block_places, blocks_places}
+use Rattle.qs_check.specs.audit.fault_places.Places.{TextPlace, client, variable, places, atom_places, atoms_places, expr_places, test_places, call_places, listed_places, block_places, blocks_places}
 use Rattle.qs_check.specs.audit.fault_places.Variables.{variables_at, variables_of}
+use Rattle.qs_check.proofs.fault_places.Inner.{all_both}
 use Rattle.qs_check.specs.WellFormed.{atom_names, atoms_names, expr_names, test_names, variables_in, variables_in_all}
 
 -- more names, each where it is new
@@ -36,20 +37,9 @@ all_named-append names (x ∷ xs) ys = all_named-append (with_name names x) xs y
 
 pub variables_at-append : (names : List Name) (ps qs : List TextPlace) → variables_at names (ps ++ qs) ≡ variables_at (variables_at names ps) qs
 variables_at-append names [] qs = refl
-variables_at-append names (object n k ∷ ps) qs = variables_at-append names ps qs
-variables_at-append names (number low high n ∷ ps) qs = variables_at-append names ps qs
 variables_at-append names (client n ∷ ps) qs = variables_at-append [] ps qs
-variables_at-append names (separate ∷ ps) qs = variables_at-append names ps qs
-variables_at-append names (listed o ∷ ps) qs = variables_at-append names ps qs
-variables_at-append names (target o ∷ ps) qs = variables_at-append names ps qs
-variables_at-append names (operation asks o op ∷ ps) qs = variables_at-append names ps qs
-variables_at-append names (arguments asks o op n ∷ ps) qs = variables_at-append names ps qs
 variables_at-append names (variable x ∷ ps) qs = variables_at-append (with_name names x) ps qs
-variables_at-append names (leaves inside ∷ ps) qs = variables_at-append names ps qs
-variables_at-append names (template m ks ∷ ps) qs = variables_at-append names ps qs
-variables_at-append names (text fault ∷ ps) qs = variables_at-append names ps qs
-variables_at-append names (starts m count ∷ ps) qs = variables_at-append names ps qs
-variables_at-append names (given m i o ∷ ps) qs = variables_at-append names ps qs
+variables_at-append names (_ ∷ ps) qs = variables_at-append names ps qs
 
 -- the places name these variables
 abbrev Tell : List TextPlace → List Name → Type 0
@@ -131,15 +121,11 @@ among_named names (x ∷ xs) q =
     ∙ or_assoc (is_among names q) (same_name q x) (is_among xs q)
 
 -- a list keeps its names apart with a new name at its end
-pub apart_last : (names : List Name) (x y : Name) → AllByRecursion (λ z. same_name y z ≡ false) names → same_name y x ≡ false → AllByRecursion (λ z. same_name y z ≡ false) (names ++ x ∷ [])
-apart_last [] x y all h = (h, tt)
-apart_last (n ∷ names) x y all h = (all.0, apart_last names x y all.1 h)
-
 pub distinct_last : (names : List Name) (x : Name) → IsDistinct same_name names → is_among names x ≡ false → IsDistinct same_name (names ++ x ∷ [])
 unfolding IsDistinct
 distinct_last [] x d h = (tt, tt)
 distinct_last (y ∷ names) x d h = (
-  apart_last names x y d.0 (nat_list_eq_equiv.symm y x ∙ (or_parts (same_name x y) (is_among names x) h).0),
+  all_both (λ z. same_name y z ≡ false) names (x ∷ []) d.0 (nat_list_eq_equiv.symm y x ∙ (or_parts (same_name x y) (is_among names x) h).0, tt),
   distinct_last names x d.1 (or_parts (same_name x y) (is_among names x) h).1,
 )
 

@@ -27,6 +27,7 @@ use Rattle.qs_check.specs.audit.fault_places.Operators.{op_of}
 use Rattle.qs_check.specs.audit.fault_places.Places.{TextPlace, places, atom_places, atoms_places, expr_places, test_places, request_places, call_places, op_at, is_known, takes}
 use Rattle.qs_check.specs.WellFormed.{IsRequest, AreStatements}
 use Rattle.qs_program.proofs.Found.{name_at, found_is, found_within, same_name-refl}
+use Rattle.qs_check.proofs.fault_places.Inner.{all_both}
 use Rattle.qs_check.proofs.fault_places.FinePlaces.{IsFine}
 use Rattle.qs_check.proofs.resolution.Scopes.{names, kinds}
 
@@ -35,10 +36,6 @@ same_decides a b = (λ e. same_text a b (sym e), λ e. ap (same_name a) (sym e) 
 
 -- what holds of the elements of two lists, one after the other
 module _ {A : Type 0} (P : A → Type 0) where
-  pub all_both : (xs ys : List A) → AllByRecursion P xs → AllByRecursion P ys → AllByRecursion P (xs ++ ys)
-  all_both [] ys h k = k
-  all_both (x ∷ xs) ys h k = (h.0, all_both xs ys h.1 k)
-
   pub all_first : (xs ys : List A) → AllByRecursion P (xs ++ ys) → AllByRecursion P xs
   all_first [] ys h = tt
   all_first (x ∷ xs) ys h = (h.0, all_first xs ys h.1)

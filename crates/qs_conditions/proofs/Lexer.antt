@@ -152,9 +152,6 @@ sign_of_signs place (b ∷ bs) =
     (of_signs_if (nat_lt 18 (run_of is_digit (b ∷ bs))) (Err _) (Ok _) tt tt)
     (byte_of_signs place (pair_of (at b pairs) bs) (at b singles)))
 
-before_of_signs : (x : Placed) (r : Result (List Placed) ConditionFault) → IsOfSigns r → IsOfSigns (before x r)
-before_of_signs x r h = grind arith
-
 with_of_signs : (place : ℕ) (r : Result (Sign × ℕ) ConditionFault) (next : ℕ → Result (List Placed) ConditionFault) → IsOfSigns r → ((more : ℕ) → IsOfSigns (next more)) → IsOfSigns (with_sign place r next)
 with_of_signs place r next h k = grind arith
 

@@ -27,13 +27,7 @@ pub(crate) fn past_open(signs: &[Placed]) -> Option<&[Placed]>
     ensures shorter { IfSome result (λ x. length x.now < length signs.now) }
 {
     match signs {
-        [
-            Placed {
-                sign: Sign::Open,
-                ..
-            },
-            rest @ ..,
-        ] => Some(rest),
+        [first, rest @ ..] if matches!(first.sign, Sign::Open) => Some(rest),
         _ => None,
     }
 }
@@ -44,13 +38,7 @@ pub(crate) fn past_close(signs: &[Placed]) -> Option<&[Placed]>
     ensures shorter { IfSome result (λ x. length x.now < length signs.now) }
 {
     match signs {
-        [
-            Placed {
-                sign: Sign::Close,
-                ..
-            },
-            rest @ ..,
-        ] => Some(rest),
+        [first, rest @ ..] if matches!(first.sign, Sign::Close) => Some(rest),
         _ => None,
     }
 }
@@ -61,13 +49,7 @@ pub(crate) fn past_minus(signs: &[Placed]) -> Option<&[Placed]>
     ensures shorter { IfSome result (λ x. length x.now < length signs.now) }
 {
     match signs {
-        [
-            Placed {
-                sign: Sign::Minus,
-                ..
-            },
-            rest @ ..,
-        ] => Some(rest),
+        [first, rest @ ..] if matches!(first.sign, Sign::Minus) => Some(rest),
         _ => None,
     }
 }
@@ -78,13 +60,7 @@ pub(crate) fn past_and(signs: &[Placed]) -> Option<&[Placed]>
     ensures shorter { IfSome result (λ x. length x.now < length signs.now) }
 {
     match signs {
-        [
-            Placed {
-                sign: Sign::And,
-                ..
-            },
-            rest @ ..,
-        ] => Some(rest),
+        [first, rest @ ..] if matches!(first.sign, Sign::And) => Some(rest),
         _ => None,
     }
 }
@@ -95,7 +71,7 @@ pub(crate) fn past_or(signs: &[Placed]) -> Option<&[Placed]>
     ensures shorter { IfSome result (λ x. length x.now < length signs.now) }
 {
     match signs {
-        [Placed { sign: Sign::Or, .. }, rest @ ..] => Some(rest),
+        [first, rest @ ..] if matches!(first.sign, Sign::Or) => Some(rest),
         _ => None,
     }
 }
@@ -106,20 +82,8 @@ pub(crate) fn past_link(signs: &[Placed]) -> Option<(bool, &[Placed])>
     ensures shorter { IfSome result (λ x. length x.1.now < length signs.now) }
 {
     match signs {
-        [
-            Placed {
-                sign: Sign::Plus,
-                ..
-            },
-            rest @ ..,
-        ] => Some((false, rest)),
-        [
-            Placed {
-                sign: Sign::Minus,
-                ..
-            },
-            rest @ ..,
-        ] => Some((true, rest)),
+        [first, rest @ ..] if matches!(first.sign, Sign::Plus) => Some((false, rest)),
+        [first, rest @ ..] if matches!(first.sign, Sign::Minus) => Some((true, rest)),
         _ => None,
     }
 }
@@ -130,13 +94,7 @@ pub(crate) fn dot(signs: &[Placed]) -> Result<&[Placed], SignFault>
     ensures shorter { IfOk result (λ x. length x.now < length signs.now) }
 {
     match signs {
-        [
-            Placed {
-                sign: Sign::Dot,
-                ..
-            },
-            rest @ ..,
-        ] => Ok(rest),
+        [first, rest @ ..] if matches!(first.sign, Sign::Dot) => Ok(rest),
         _ => Err(SignFault::Form(signs.len())),
     }
 }
@@ -147,13 +105,7 @@ pub(crate) fn comma(signs: &[Placed]) -> Result<&[Placed], SignFault>
     ensures shorter { IfOk result (λ x. length x.now < length signs.now) }
 {
     match signs {
-        [
-            Placed {
-                sign: Sign::Comma,
-                ..
-            },
-            rest @ ..,
-        ] => Ok(rest),
+        [first, rest @ ..] if matches!(first.sign, Sign::Comma) => Ok(rest),
         _ => Err(SignFault::Form(signs.len())),
     }
 }
@@ -164,13 +116,7 @@ pub(crate) fn closed(signs: &[Placed]) -> Result<&[Placed], SignFault>
     ensures shorter { IfOk result (λ x. length x.now < length signs.now) }
 {
     match signs {
-        [
-            Placed {
-                sign: Sign::Close,
-                ..
-            },
-            rest @ ..,
-        ] => Ok(rest),
+        [first, rest @ ..] if matches!(first.sign, Sign::Close) => Ok(rest),
         _ => Err(SignFault::Form(signs.len())),
     }
 }

@@ -28,7 +28,7 @@ start_sync = search (block_sync, declared_sync, crosses, sendable) depth 40
 client_sync : IsSync Rattle.qs_program.specs.contracts.program.Client.the_row
 client_sync = search (block_sync, start_sync, names_sync, crosses, sendable) depth 40
 
-program_sync : IsSync Rattle.qs_program.specs.contracts.program.Program.the_row
+pub program_sync : IsSync Rattle.qs_program.specs.contracts.program.Program.the_row
 program_sync = search (client_sync, declared_sync, crosses, sendable) depth 40
 
 packed_sync : IsSync Rattle.qs_standings.specs.contracts.packed.Packed.the_row

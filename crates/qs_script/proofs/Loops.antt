@@ -16,6 +16,9 @@ use Rattle.qs_script.proofs.tree.Trees.{joined_assoc, joined-end}
 pub record Continues {M : Type 0} (loop : Loop M) (start : M) (tokens rest : List Token) (done : M) : Type 0 where
   pub continues : (read : Read M) → Runs loop rest read → after loop start (run loop tokens) ≡ after loop done read
 
+pub begins : {M : Type 0} (loop : Loop M) (start : M) (tokens : List Token) → Continues loop start tokens tokens start
+begins loop start tokens = record { continues = λ read r. ap (after loop start) (run_is loop tokens read r) }
+
 -- one list after another
 pub record IsLawful {M : Type 0} (loop : Loop M) : Type 0 where
   pub none_before : (x : M) → loop.join loop.none x ≡ x
@@ -36,9 +39,6 @@ module _ {M : Type 0} (loop : Loop M) (lawful : IsLawful loop) where
   after-after : (x y : M) (read : Read M) → after loop x (after loop y read) ≡ after loop (loop.join x y) read
   after-after x y (Err left) = refl
   after-after x y (Ok p) = ap (λ z. Ok (z, p.1)) (sym (lawful.regroups x y p.0))
-
-  pub begins : (start : M) (tokens : List Token) → Continues loop start tokens tokens start
-  begins start tokens = record { continues = λ read r. ap (after loop start) (run_is loop tokens read r) }
 
   pub goes_on : (start : M) (tokens rest : List Token) (done : M) (x : M × List Token) → Continues loop start tokens rest done → loop.stop rest ≡ None → loop.element rest ≡ Ok x → length x.1 < length rest → Continues loop start tokens x.1 (loop.join done x.0)
   goes_on start tokens rest done x h e s less = record {
@@ -64,18 +64,11 @@ module _ {M : Type 0} (loop : Loop M) (lawful : IsLawful loop) where
 
 -- lists of what is read one by one
 module _ {A : Type 0} (stop : List Token → Option (List Token)) (element : List Token → Read A) where
-  pub list_begins : (start : List A) (tokens : List Token) → Continues (list_loop stop element) start tokens tokens start
-  list_begins start tokens = begins (list_loop stop element) (list_lawful stop element) start tokens
-
   pub list_goes_on : (start : List A) (tokens rest : List Token) (done : List A) (x : A × List Token) → Continues (list_loop stop element) start tokens rest done → stop rest ≡ None → element rest ≡ Ok x → length x.1 < length rest → Continues (list_loop stop element) start tokens x.1 (done ++ x.0 ∷ [])
   list_goes_on start tokens rest done x h e s less =
       goes_on (list_loop stop element) (list_lawful stop element) start tokens rest done (x.0 ∷ [], x.1) h e (ap one s) less
 
-  pub list_closes : (start : List A) (tokens rest left : List Token) (done : List A) → Continues (list_loop stop element) start tokens rest done → stop rest ≡ Some left → after (list_loop stop element) start (run (list_loop stop element) tokens) ≡ Ok (done, left)
-  list_closes start tokens rest left done h e =
-      closes (list_loop stop element) (list_lawful stop element) start tokens rest left done h e
-
-  one_fails : (fault : TreeFault) (read : Read A) → Fails fault read → Fails fault (one read)
+  pub one_fails : (fault : TreeFault) (read : Read A) → Fails fault read → Fails fault (one read)
   one_fails (Form left) read h = ap one h
   one_fails Memory read h = tt
 
@@ -83,38 +76,16 @@ module _ {A : Type 0} (stop : List Token → Option (List Token)) (element : Lis
   list_fails fault start tokens rest done h e s =
       fails (list_loop stop element) (list_lawful stop element) fault start tokens rest done h e (one_fails fault (element rest) s)
 
-  pub whole_list_closes : (tokens rest left : List Token) (done : List A) → Continues (list_loop stop element) [] tokens rest done → stop rest ≡ Some left → run (list_loop stop element) tokens ≡ Ok (done, left)
-  whole_list_closes tokens rest left done h e =
-      whole_closes (list_loop stop element) (list_lawful stop element) tokens rest left done h e
-
-  pub whole_list_fails : (fault : TreeFault) (tokens rest : List Token) (done : List A) → Continues (list_loop stop element) [] tokens rest done → stop rest ≡ None → Fails fault (element rest) → Fails fault (run (list_loop stop element) tokens)
-  whole_list_fails fault tokens rest done h e s =
-      whole_fails (list_loop stop element) (list_lawful stop element) fault tokens rest done h e (one_fails fault (element rest) s)
-
-pub before_end : (ts : List Token) → 0 < length ts → end_at ts ≡ None
-before_end [] h = absurd (omega arith)
-before_end (x ∷ ts) h = refl
-
 pub at_end : (ts : List Token) → length ts ≡ 0 → end_at ts ≡ Some []
 at_end [] h = refl
 at_end (x ∷ ts) h = absurd (omega arith)
-
-abbrev read_or : Stmts × List Token → Read Stmts → Stmts × List Token
-read_or other (Err left) = other
-read_or other (Ok x) = x
-
-abbrev got : Stmts × List Token → Read Stmts
-got x = Ok x
-
-same_read : (x y : Stmts × List Token) → got x ≡ got y → x ≡ y
-same_read x y e = ap (read_or y) e
 
 -- a statement that was added to those of before
 put_read : (levels : ℕ) (start : Stmts) (tokens rest left : List Token) (done new : Stmts) (read : Read Stmts) → stmt_in levels rest ≡ read → Continues (body_loop levels) start tokens rest done → close_brace_at rest ≡ None
     → onto done read ≡ Ok (new, left) → length left < length rest → Continues (body_loop levels) start tokens left new
 put_read levels start tokens rest left done new (Err stuck) e h stop is less = cc
 put_read levels start tokens rest left done new (Ok x) e h stop is less =
-    let pair : (join_statements done x.0, x.1) ≡ (new, left) = same_read (join_statements done x.0, x.1) (new, left) is in
+    let pair : ◌≡◌ {A = Stmts × List Token} (join_statements done x.0, x.1) (new, left) = cc in
     let news : join_statements done x.0 ≡ new = ap (λ p. p.0) pair in
     let lefts : x.1 ≡ left = ap (λ p. p.1) pair in
     rw (← news, ← lefts) (goes_on (body_loop levels) (body_lawful levels) start tokens rest done x h stop e (rw lefts less))

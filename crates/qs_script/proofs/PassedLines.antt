@@ -1,6 +1,7 @@
 -- The lines of a text before a place, as `line_of` passes them over: their tokens come before those of the rest,
 -- whatever the rest is. It stands on the law that a line feed ends what has begun.
 use Rattle.std.proofs.Common.{◌≡◌, ℕ, suc, ◌+◌, ◌-◌, ◌<◌, ◌≤◌, Bool, true, false, nat_eq, nat_lt, if◌then◌else◌, List, [], ◌∷◌, ◌++◌, length, take, drop, get_or, refl, ap, sym, ◌∙◌, arith, add-one, append_assoc, append-nil, length-append, length-drop, Result, Ok, Err, take-append-drop, take_all, length-take-le, get_or-drop}
+use Rattle.std.proofs.lemmas.List.{get_or_at}
 use Rattle.std.proofs.lemmas.List.Sums.{fold_more}
 use Rattle.std.proofs.Math.Seq.{take-append_seam}
 use Rattle.qs_diagnosis.specs.Spots.{begin, line_length, line_end_at, moved, spot_at}
@@ -8,6 +9,7 @@ use Rattle.qs_script.specs.Types.{Token, TokenFault}
 use Rattle.qs_script.specs.audit.tokens.Tokens.{after, tokens_of}
 use Rattle.qs_script.proofs.tokens.Lexemes.{then_tokens, after-after}
 use Rattle.qs_script.proofs.tokens.ByLine.{by_line}
+use Rattle.qs_script.proofs.grammar.Readings.{both_err}
 use Rattle.qs_script.specs.Lines.{IsLine, IsFaultLine, IsTokenLine, line_from}
 
 abbrev Tokens : Type 0
@@ -35,22 +37,14 @@ split : (bs : List ℕ) → line_length bs < length bs → bs ≡ take (line_len
 split [] some = absurd (omega arith)
 split (b ∷ bs) some = split_step (nat_eq b 10) b bs refl (split bs) some
 
-within_step : (lf : Bool) (n m : ℕ) → n ≤ m → (if lf then 0 else n + 1) ≤ suc m
-within_step true n m h = omega arith
-within_step false n m h = omega arith
-
 line_within : (bs : List ℕ) → line_length bs ≤ length bs
 line_within [] = omega arith
-line_within (b ∷ bs) = within_step (nat_eq b 10) (line_length bs) (length bs) (line_within bs)
-
-feed_step : (lf : Bool) (b : ℕ) (bs : List ℕ) → nat_eq b 10 ≡ lf → (line_length bs < length bs → get_or bs (line_length bs) 0 ≡ 10)
-    → (if lf then 0 else line_length bs + 1) < suc (length bs) → get_or (b ∷ bs) (if lf then 0 else line_length bs + 1) 0 ≡ 10
-feed_step true b bs e ih some = grind arith
-feed_step false b bs e ih some = rw add-one (ih (omega arith))
+line_within (b ∷ bs) = grind (arith, line_within bs)
 
 feed_at : (bs : List ℕ) → line_length bs < length bs → get_or bs (line_length bs) 0 ≡ 10
-feed_at [] some = absurd (omega arith)
-feed_at (b ∷ bs) some = feed_step (nat_eq b 10) b bs refl (feed_at bs) some
+feed_at bs some =
+    ap (λ xs. get_or xs (line_length bs) 0) (split bs some)
+    ∙ get_or_at (take (line_length bs) bs) 10 (drop (suc (line_length bs)) bs) 0 (line_length bs) (length-take-le (line_length bs) bs (line_within bs))
 
 -- the tokens from a place on begin with those of its line
 of_line : (bs : List ℕ) → line_length bs < length bs → tokens_of bs ≡ then_tokens (tokens_of (take (line_length bs) bs)) (drop (suc (line_length bs)) bs)
@@ -131,14 +125,6 @@ pub tokens_there : (text : List ℕ) (place : ℕ) (us vs ts : List Token) → I
 tokens_there text place us vs ts h cut is =
     many us vs ts (drop place text) (nat_lt (line_end_at text place) (length (drop place text))) refl cut (sym (rest_tokens text place us h) ∙ is)
 
-pub same_fault : (r : Tokens) (e f : TokenFault) → r ≡ Err e → r ≡ Err f → e ≡ f
-same_fault (Ok vs) e f p q = cc
-same_fault (Err d) e f p q = cc
-
-pub not_both : (r : Tokens) (ts : List Token) (e : TokenFault) → r ≡ Ok ts → r ≡ Err e → ⊥
-not_both (Ok us) ts e p q = cc
-not_both (Err d) ts e p q = cc
-
 -- what is known of a line whose tokens, or whose fault, are known
 pub fault_line : (text : List ℕ) (place : ℕ) (us : List Token) (e f : TokenFault) → IsFront text place us → place ≤ length text → (spot_at text place).column ≡ 1
     → tokens_of (line_from text place) ≡ Err e → tokens_of text ≡ Err f → IsFaultLine text f (spot_at text place).line
@@ -146,7 +132,7 @@ fault_line text place us e f h within first cut is = record {
   place = place;
   before = us;
   there = is_line text place us h within first;
-  at_fault = cut ∙ ap Err (same_fault (tokens_of text) e f (fault_there text place us e h cut) is);
+  at_fault = cut ∙ ap Err (both_err (tokens_of text) e f (fault_there text place us e h cut) is);
 }
 
 pub token_line : (text : List ℕ) (place : ℕ) (us vs : List Token) (number left : ℕ) → IsFront text place us → place ≤ length text → (spot_at text place).column ≡ 1

@@ -41,13 +41,6 @@ abbrev pub IsReadOf : List ℕ → Result (List Item) ReadFault → Type 0
 IsReadOf text (Ok script) = IsScriptText text script
 IsReadOf text (Err fault) = IsRefused fault text
 
--- a token fault with its line
-abbrev pub IsPlaced : TokenFault → ℕ → ReadFault → Type 0
-IsPlaced fault at (f.Byte line) = (fault ≡ token.Byte) × (line ≡ at)
-IsPlaced fault at (f.Number line) = (fault ≡ token.Number) × (line ≡ at)
-IsPlaced fault at (f.Name line) = (fault ≡ token.Name) × (line ≡ at)
-IsPlaced fault at _ = ⊥
-
 -- the first token fault of a text, unless memory ran out
 abbrev pub HasFault : ReadFault → List ℕ → Type 0
 HasFault (f.Byte line) text = IsFaultAt text token.Byte line

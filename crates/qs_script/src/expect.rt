@@ -4,10 +4,10 @@ ghost use Rattle.std.specs.Prelude.{◌<◌, length, IfOk, IfSome};
 ghost use Rattle.qs_script.specs.grammar.Reading.{name_at, open_brace_at, close_brace_at, close_paren_at};
 ghost use Rattle.qs_script.specs.Results.{Gives, Finds};
 
-use crate::fault::TreeFault;
+use crate::fault::{Read, TreeFault};
 use crate::tokens::{Name, Token};
 
-pub(crate) fn name(tokens: &[Token]) -> Result<(Name, &[Token]), TreeFault>
+pub(crate) fn name(tokens: &[Token]) -> Read<Name>
     ensures exact { Gives (λ x. (x.0, x.1.now)) result (name_at tokens.now) }
     ensures shorter { IfOk result (λ x. length x.1.now < length tokens.now) }
 {

@@ -1,5 +1,6 @@
 // Faults of reading.
 
+use crate::tokens::Token;
 use std::alloc::AllocError;
 use thiserror::Error;
 
@@ -55,3 +56,9 @@ impl From<AllocError> for TreeFault {
         TreeFault::Memory
     }
 }
+
+// What is read, and the tokens after it.
+pub(crate) type Read<'t, T> = Result<(T, &'t [Token]), TreeFault>;
+
+// The tokens after what is read.
+pub(crate) type Rest<'t> = Result<&'t [Token], TreeFault>;

@@ -1,12 +1,12 @@
 // Items: objects, and clients with their blocks.
 
-ghost use Rattle.std.specs.Prelude.{◌<◌, [], ◌∷◌, length, IfOk};
-ghost use Rattle.qs_script.specs.grammar.Reading.{after, run, names_loop, block_at, separate_at, blocks_loop, object_at, object_called_at, client_at, client_called_at, own_blocks_at, item_at, items_loop};
+ghost use Rattle.std.specs.Prelude.{◌<◌, [], length, IfOk};
+ghost use Rattle.qs_script.specs.grammar.Reading.{run, block_at, blocks_loop, object_at, object_called_at, client_at, client_called_at, item_at, items_loop};
 ghost use Rattle.qs_script.specs.Results.{Gives};
 
 use crate::expect::{name, past_close_brace, past_open_brace};
-use crate::fault::TreeFault;
-use crate::lists::{Listing, list};
+use crate::fault::{Read, TreeFault};
+use crate::lists::{Listing, from_first, list};
 use crate::statements::body;
 use crate::templates::{started, template};
 use crate::tokens::{Name, Token};
@@ -34,42 +34,21 @@ impl Listing for Reserved {
         past_open_brace(tokens)
     }
 
-    fn element(alloc: Global, tokens: &[Token]) -> Result<(Name, &[Token]), TreeFault> {
+    fn element(alloc: Global, tokens: &[Token]) -> Read<Name> {
         name(tokens)
     }
 }
 
-// The names after the first, and the brace that opens after them.
-fn names(alloc: Global, first: Name, tokens: &[Token]) -> Result<(NameList, &[Token]), TreeFault>
-    ensures exact { Gives (λ x. (x.0, x.1.now)) result (after names_loop (first ∷ []) (run names_loop tokens.now)) }
-    ensures shorter { IfOk result (λ x. length x.1.now < length tokens.now) }
-{
-    let mut names = Vec::with_capacity(alloc, USUAL_NAMES)?;
-    add(&mut names, first)?;
-    let (names, rest) = list::<Reserved>(alloc, names, tokens)?;
-    Ok((NameList::of(names), rest))
-}
-
 // A block, after the word separate.
-fn block(alloc: Global, tokens: &[Token]) -> Result<(Block, &[Token]), TreeFault>
+fn block(alloc: Global, tokens: &[Token]) -> Read<Block>
     ensures exact { Gives (λ x. (x.0, x.1.now)) result (block_at tokens.now) }
     ensures shorter { IfOk result (λ x. length x.1.now < length tokens.now) }
 {
     let (first, rest) = name(tokens)?;
-    let (reserved, rest) = names(alloc, first, rest)?;
+    let (reserved, rest) = from_first::<Reserved>(alloc, USUAL_NAMES, first, rest)?;
+    let reserved = NameList::of(reserved);
     let (body, rest) = body(alloc, MOST_LEVELS, rest)?;
     Ok((Block { reserved, body }, rest))
-}
-
-// A block with that word.
-fn separate(alloc: Global, tokens: &[Token]) -> Result<(Block, &[Token]), TreeFault>
-    ensures exact { Gives (λ x. (x.0, x.1.now)) result (separate_at tokens.now) }
-    ensures shorter { IfOk result (λ x. length x.1.now < length tokens.now) }
-{
-    match tokens {
-        [Token::Separate, rest @ ..] => block(alloc, rest),
-        _ => Err(TreeFault::Form(tokens.len())),
-    }
 }
 
 // Blocks up to the brace that closes them.
@@ -88,13 +67,16 @@ impl Listing for Separates {
         past_close_brace(tokens)
     }
 
-    fn element(alloc: Global, tokens: &[Token]) -> Result<(Block, &[Token]), TreeFault> {
-        separate(alloc, tokens)
+    fn element(alloc: Global, tokens: &[Token]) -> Read<Block> {
+        match tokens {
+            [Token::Separate, rest @ ..] => block(alloc, rest),
+            _ => Err(TreeFault::Form(tokens.len())),
+        }
     }
 }
 
 // Blocks and the brace that closes them.
-pub(crate) fn blocks(alloc: Global, tokens: &[Token]) -> Result<(Blocks, &[Token]), TreeFault>
+pub(crate) fn blocks(alloc: Global, tokens: &[Token]) -> Read<Blocks>
     ensures exact { Gives (λ x. (x.0, x.1.now)) result (run blocks_loop tokens.now) }
     ensures shorter { IfOk result (λ x. length x.1.now < length tokens.now) }
 {
@@ -103,18 +85,16 @@ pub(crate) fn blocks(alloc: Global, tokens: &[Token]) -> Result<(Blocks, &[Token
 }
 
 // An object, after that word.
-fn object(tokens: &[Token]) -> Result<(Item, &[Token]), TreeFault>
+fn object(tokens: &[Token]) -> Read<Item>
     ensures exact { Gives (λ x. (x.0, x.1.now)) result (object_at tokens.now) }
     ensures shorter { IfOk result (λ x. length x.1.now < length tokens.now) }
 {
-    match tokens {
-        [Token::Name(name), rest @ ..] => object_called(name.copied(), rest),
-        _ => Err(TreeFault::Form(tokens.len())),
-    }
+    let (name, rest) = name(tokens)?;
+    object_called(name, rest)
 }
 
 // The object of that name, from its kind on.
-fn object_called(name: Name, tokens: &[Token]) -> Result<(Item, &[Token]), TreeFault>
+fn object_called(name: Name, tokens: &[Token]) -> Read<Item>
     ensures exact { Gives (λ x. (x.0, x.1.now)) result (object_called_at name tokens.now) }
     ensures shorter { IfOk result (λ x. length x.1.now < length tokens.now) }
 {
@@ -145,38 +125,30 @@ fn object_called(name: Name, tokens: &[Token]) -> Result<(Item, &[Token]), TreeF
 }
 
 // A client, after that word.
-fn client(alloc: Global, tokens: &[Token]) -> Result<(Item, &[Token]), TreeFault>
+fn client(alloc: Global, tokens: &[Token]) -> Read<Item>
     ensures exact { Gives (λ x. (x.0, x.1.now)) result (client_at tokens.now) }
     ensures shorter { IfOk result (λ x. length x.1.now < length tokens.now) }
 {
-    match tokens {
-        [Token::Name(name), rest @ ..] => client_called(alloc, name.copied(), rest),
-        _ => Err(TreeFault::Form(tokens.len())),
-    }
+    let (name, rest) = name(tokens)?;
+    client_called(alloc, name, rest)
 }
 
 // The client of that name: with blocks of its own, or of a template.
-fn client_called(alloc: Global, name: Name, tokens: &[Token]) -> Result<(Item, &[Token]), TreeFault>
+fn client_called(alloc: Global, name: Name, tokens: &[Token]) -> Read<Item>
     ensures exact { Gives (λ x. (x.0, x.1.now)) result (client_called_at name tokens.now) }
     ensures shorter { IfOk result (λ x. length x.1.now < length tokens.now) }
 {
     match tokens {
-        [Token::OpenBrace, rest @ ..] => own_blocks(alloc, name, rest),
+        [Token::OpenBrace, rest @ ..] => {
+            let (blocks, rest) = blocks(alloc, rest)?;
+            Ok((Item::Client(ClientItem { name, blocks }), rest))
+        }
         [Token::Assign, rest @ ..] => started(alloc, name, rest),
         _ => Err(TreeFault::Form(tokens.len())),
     }
 }
 
-// The client of that name, after the brace that opens its blocks.
-fn own_blocks(alloc: Global, name: Name, tokens: &[Token]) -> Result<(Item, &[Token]), TreeFault>
-    ensures exact { Gives (λ x. (x.0, x.1.now)) result (own_blocks_at name tokens.now) }
-    ensures shorter { IfOk result (λ x. length x.1.now < length tokens.now) }
-{
-    let (blocks, rest) = blocks(alloc, tokens)?;
-    Ok((Item::Client(ClientItem { name, blocks }), rest))
-}
-
-fn item(alloc: Global, tokens: &[Token]) -> Result<(Item, &[Token]), TreeFault>
+fn item(alloc: Global, tokens: &[Token]) -> Read<Item>
     ensures exact { Gives (λ x. (x.0, x.1.now)) result (item_at tokens.now) }
     ensures shorter { IfOk result (λ x. length x.1.now < length tokens.now) }
 {

@@ -18,6 +18,7 @@ pub fn one_answer()
 {}
 
 /// A script with statements has fewer of them, inner ones too, than its text has bytes.
+#[tactic(auto, using(crate::proofs::Bytes::fewer_statements))]
 pub fn fewer_statements()
     ensures { (text : List ℕ) (s : List Item) → IsScriptText text s → 0 < statements s → statements s < length text }
 {}

@@ -1,11 +1,11 @@
 // Lists, read element by element.
 
-ghost use Rattle.std.specs.Prelude.{◌<◌, length, IfOk, IfSome, List, Option};
+ghost use Rattle.std.specs.Prelude.{◌<◌, [], ◌∷◌, length, IfOk, IfSome, List, Option};
 ghost use Rattle.qs_script.specs.declared.tokens.token.Token.{Token as token};
 ghost use Rattle.qs_script.specs.grammar.Reading.{Read, after, run, list_loop};
 ghost use Rattle.qs_script.specs.Results.{Gives, Finds};
 
-use crate::fault::TreeFault;
+use crate::fault::Read;
 use crate::tokens::Token;
 use crate::tree::add;
 use std::alloc::Global;
@@ -24,7 +24,7 @@ pub(crate) trait Listing {
         ensures shorter { IfSome result (λ x. length x.now < length tokens.now) };
 
     // The element at the front.
-    fn element(alloc: Global, tokens: &[Token]) -> Result<(Self::Element, &[Token]), TreeFault>
+    fn element(alloc: Global, tokens: &[Token]) -> Read<Self::Element>
         ensures exact { Gives (λ x. (x.0, x.1.now)) result (element_at tokens.now) }
         ensures shorter { IfOk result (λ x. length x.1.now < length tokens.now) };
 }
@@ -35,7 +35,7 @@ pub(crate) fn list<L: Listing>(
     alloc: Global,
     before: Vec<L::Element>,
     tokens: &[Token],
-) -> Result<(Vec<L::Element>, &[Token]), TreeFault>
+) -> Read<Vec<L::Element>>
     ensures exact { Gives (λ x. (x.0.items, x.1.now)) result (after (list_loop L.stop_at L.element_at) before.items (run (list_loop L.stop_at L.element_at) tokens.now)) }
     ensures shorter { IfOk result (λ x. length x.1.now < length tokens.now) }
 {
@@ -49,4 +49,19 @@ pub(crate) fn list<L: Listing>(
         add(&mut list, element)?;
         rest = after;
     }
+}
+
+// The elements from a first one on. It takes memory for so many at once.
+pub(crate) fn from_first<L: Listing>(
+    alloc: Global,
+    count: usize,
+    first: L::Element,
+    tokens: &[Token],
+) -> Read<Vec<L::Element>>
+    ensures exact { Gives (λ x. (x.0.items, x.1.now)) result (after (list_loop L.stop_at L.element_at) (first ∷ []) (run (list_loop L.stop_at L.element_at) tokens.now)) }
+    ensures shorter { IfOk result (λ x. length x.1.now < length tokens.now) }
+{
+    let mut before = Vec::with_capacity(alloc, count)?;
+    add(&mut before, first)?;
+    list::<L>(alloc, before, tokens)
 }

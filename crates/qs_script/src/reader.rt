@@ -1,8 +1,8 @@
 // From a text to a script.
 
-ghost use Rattle.std.specs.Prelude.{◌≡◌, ◌<◌, ◌≤◌, ◌↔◌, length, Ok, IfOk, IfErr, IsErrOf, IsTrue};
+ghost use Rattle.std.specs.Prelude.{◌≡◌, ◌<◌, ◌≤◌, ◌↔◌, length, Ok, IfOk, IfErr, IsErrOf, IsTrue, ℕ, List};
 ghost use Rattle.qs_script.specs.audit.tokens.Tokens.{tokens_of};
-ghost use Rattle.qs_script.specs.Reads.{HasFault, IsReadOf, IsPlaced};
+ghost use Rattle.qs_script.specs.Reads.{HasFault, IsFaultAt, IsReadOf};
 ghost use Rattle.qs_script.specs.grammar.FormPlaces.{BeginsScript, IsFormPlaceOf};
 ghost use Rattle.qs_script.specs.audit.tree.Limits.{longest_text};
 
@@ -15,7 +15,7 @@ use std::alloc::{AllocError, Global};
 
 // The fault at that line.
 fn placed(fault: TokenFault, line: u32) -> ReadFault
-    ensures same { IsPlaced fault line result }
+    ensures same { (text : List ℕ) → IsFaultAt text fault line → HasFault result text }
 {
     match fault {
         TokenFault::Byte => ReadFault::Byte { line },
@@ -60,6 +60,7 @@ pub fn read(alloc: Global, text: &[u8]) -> Result<Script, ReadFault>
 
 /// The place of the fault of form of some tokens: how many stand before the first with which no script goes on, or,
 /// where there is no such token, all of them. Nothing, where they are a script's. It fails only where memory runs out.
+#[tactic(auto, using(crate::proofs::grammar::Places::form_place, crate::proofs::grammar::Readings::is_script, crate::proofs::grammar::Readings::is_no_script))]
 pub fn form_place(alloc: Global, tokens: &[Token]) -> Result<Option<usize>, AllocError>
     ensures exact { IfOk result (IsFormPlaceOf tokens.now) }
 {
@@ -74,6 +75,7 @@ pub fn form_place(alloc: Global, tokens: &[Token]) -> Result<Option<usize>, Allo
 }
 
 /// Whether some script begins with these tokens. It fails only where memory runs out.
+#[tactic(auto, using(crate::proofs::grammar::Places::begins_where, crate::proofs::grammar::Places::script_begins))]
 pub fn begins_script(alloc: Global, tokens: &[Token]) -> Result<bool, AllocError>
     ensures exact { IfOk result (λ begins. IsTrue begins ↔ BeginsScript tokens.now) }
 {

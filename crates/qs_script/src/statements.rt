@@ -5,10 +5,10 @@ ghost use Rattle.qs_script.specs.tree.Views.{single};
 ghost use Rattle.qs_script.specs.grammar.Reading.{run, body_loop, stmt_in, stmt_at, choice_at, other_at, repeat_at, braced_at, named_at, command_at, with_args, args_at, after, more_loop, assigned_at, query_at, assign_at, computed_at, semicolon_at, ended_at};
 ghost use Rattle.qs_script.specs.tree.Tree.{call_of};
 ghost use Rattle.qs_script.specs.Results.{Gives, Puts};
-ghost use Rattle.qs_script.specs.audit.tree.Tree.{end, leave, command};
+ghost use Rattle.qs_script.specs.audit.tree.Tree.{end, command};
 
 use crate::expect::{past_close_brace, past_close_paren};
-use crate::fault::TreeFault;
+use crate::fault::{Read, Rest, TreeFault};
 use crate::tokens::{Name, Token};
 use crate::tree::{ArgumentList, Atom, Body, Expr, MOST_LEVELS, Operator, Stmt};
 use crate::values::{args, atom, operator, request, several, test};
@@ -21,11 +21,7 @@ fn usual_length(levels: u8) -> usize {
 
 // Statements, at most `levels` one inside another, and the brace that closes them.
 #[cycle(body)]
-pub(crate) fn body(
-    alloc: Global,
-    levels: u8,
-    tokens: &[Token],
-) -> Result<(Body, &[Token]), TreeFault>
+pub(crate) fn body(alloc: Global, levels: u8, tokens: &[Token]) -> Read<Body>
     ensures exact { Gives (λ x. (x.0, x.1.now)) result (run (body_loop levels) tokens.now) }
     ensures shorter { IfOk result (λ x. length x.1.now < length tokens.now) }
 {
@@ -42,12 +38,7 @@ pub(crate) fn body(
 // Adds a statement, where at most `levels` may stand one inside another, and gives the tokens after it.
 #[cycle(body)]
 #[inline(always)]
-fn statement<'t>(
-    alloc: Global,
-    levels: u8,
-    stmts: &mut Body,
-    tokens: &'t [Token],
-) -> Result<&'t [Token], TreeFault>
+fn statement<'t>(alloc: Global, levels: u8, stmts: &mut Body, tokens: &'t [Token]) -> Rest<'t>
     ensures exact { Puts stmts.old stmts.new result (stmt_in levels tokens.now) }
     ensures shorter { IfOk result (λ rest. length rest.now < length tokens.now) }
 {
@@ -60,17 +51,15 @@ fn statement<'t>(
 // Adds a statement, where at most `levels` may stand one inside another in its bodies.
 #[cycle(body)]
 #[inline(always)]
-fn statement_over<'t>(
-    alloc: Global,
-    levels: u8,
-    stmts: &mut Body,
-    tokens: &'t [Token],
-) -> Result<&'t [Token], TreeFault>
+fn statement_over<'t>(alloc: Global, levels: u8, stmts: &mut Body, tokens: &'t [Token]) -> Rest<'t>
     ensures exact { Puts stmts.old stmts.new result (stmt_at (run (body_loop levels)) tokens.now) }
     ensures shorter { IfOk result (λ rest. length rest.now < length tokens.now) }
 {
     match tokens {
-        [Token::Leave, rest @ ..] => left(stmts, rest),
+        [Token::Leave, rest @ ..] => {
+            let rest = past_semicolon(rest)?;
+            put(stmts, Stmt::Leave, rest)
+        }
         [Token::If, rest @ ..] => choice(alloc, levels, stmts, rest),
         [Token::Repeat, rest @ ..] => repeat(alloc, levels, stmts, rest),
         [Token::Name(name), rest @ ..] => named(alloc, name, stmts, rest),
@@ -78,24 +67,9 @@ fn statement_over<'t>(
     }
 }
 
-// Adds a leave, after that word.
-#[inline(always)]
-fn left<'t>(stmts: &mut Body, tokens: &'t [Token]) -> Result<&'t [Token], TreeFault>
-    ensures exact { Puts stmts.old stmts.new result (ended_at (leave end) tokens.now) }
-    ensures shorter { IfOk result (λ rest. length rest.now < length tokens.now) }
-{
-    let rest = past_semicolon(tokens)?;
-    put(stmts, Stmt::Leave, rest)
-}
-
 // Adds an if, after that word.
 #[cycle(body)]
-fn choice<'t>(
-    alloc: Global,
-    levels: u8,
-    stmts: &mut Body,
-    tokens: &'t [Token],
-) -> Result<&'t [Token], TreeFault>
+fn choice<'t>(alloc: Global, levels: u8, stmts: &mut Body, tokens: &'t [Token]) -> Rest<'t>
     ensures exact { Puts stmts.old stmts.new result (choice_at (run (body_loop levels)) tokens.now) }
     ensures shorter { IfOk result (λ rest. length rest.now < length tokens.now) }
 {
@@ -110,7 +84,7 @@ fn choice<'t>(
 
 // The second body of an if, where there is one.
 #[cycle(body)]
-fn other(alloc: Global, levels: u8, tokens: &[Token]) -> Result<(Option<Body>, &[Token]), TreeFault>
+fn other(alloc: Global, levels: u8, tokens: &[Token]) -> Read<Option<Body>>
     ensures exact { Gives (λ x. (x.0, x.1.now)) result (other_at (run (body_loop levels)) tokens.now) }
     ensures within { IfOk result (λ x. length x.1.now ≤ length tokens.now) }
 {
@@ -125,12 +99,7 @@ fn other(alloc: Global, levels: u8, tokens: &[Token]) -> Result<(Option<Body>, &
 
 // Adds a repeat, after that word.
 #[cycle(body)]
-fn repeat<'t>(
-    alloc: Global,
-    levels: u8,
-    stmts: &mut Body,
-    tokens: &'t [Token],
-) -> Result<&'t [Token], TreeFault>
+fn repeat<'t>(alloc: Global, levels: u8, stmts: &mut Body, tokens: &'t [Token]) -> Rest<'t>
     ensures exact { Puts stmts.old stmts.new result (repeat_at (run (body_loop levels)) tokens.now) }
     ensures shorter { IfOk result (λ rest. length rest.now < length tokens.now) }
 {
@@ -145,7 +114,7 @@ fn repeat<'t>(
 
 // A body in braces.
 #[cycle(body)]
-fn braced(alloc: Global, levels: u8, tokens: &[Token]) -> Result<(Body, &[Token]), TreeFault>
+fn braced(alloc: Global, levels: u8, tokens: &[Token]) -> Read<Body>
     ensures exact { Gives (λ x. (x.0, x.1.now)) result (braced_at (run (body_loop levels)) tokens.now) }
     ensures shorter { IfOk result (λ x. length x.1.now < length tokens.now) }
 {
@@ -157,12 +126,7 @@ fn braced(alloc: Global, levels: u8, tokens: &[Token]) -> Result<(Body, &[Token]
 
 // Adds a statement that begins with a name, after that name.
 #[inline(always)]
-fn named<'t>(
-    alloc: Global,
-    name: &Name,
-    stmts: &mut Body,
-    tokens: &'t [Token],
-) -> Result<&'t [Token], TreeFault>
+fn named<'t>(alloc: Global, name: &Name, stmts: &mut Body, tokens: &'t [Token]) -> Rest<'t>
     ensures exact { Puts stmts.old stmts.new result (named_at name.now tokens.now) }
     ensures shorter { IfOk result (λ rest. length rest.now < length tokens.now) }
 {
@@ -175,12 +139,7 @@ fn named<'t>(
 
 // Adds a command on an object, after its dot.
 #[inline(never)]
-fn command<'t>(
-    alloc: Global,
-    object: &Name,
-    stmts: &mut Body,
-    tokens: &'t [Token],
-) -> Result<&'t [Token], TreeFault>
+fn command<'t>(alloc: Global, object: &Name, stmts: &mut Body, tokens: &'t [Token]) -> Rest<'t>
     ensures exact { Puts stmts.old stmts.new result (command_at object.now tokens.now) }
     ensures shorter { IfOk result (λ rest. length rest.now < length tokens.now) }
 {
@@ -200,7 +159,7 @@ fn called<'t>(
     op: &Name,
     stmts: &mut Body,
     tokens: &'t [Token],
-) -> Result<&'t [Token], TreeFault>
+) -> Rest<'t>
     ensures exact { Puts stmts.old stmts.new result (with_args object.now op.now (args_at tokens.now)) }
     ensures shorter { IfOk result (λ rest. length rest.now < length tokens.now) }
 {
@@ -234,7 +193,7 @@ fn called_with<'t>(
     first: Atom,
     stmts: &mut Body,
     tokens: &'t [Token],
-) -> Result<&'t [Token], TreeFault>
+) -> Rest<'t>
     ensures exact { Puts stmts.old stmts.new result (with_args object.now op.now (after more_loop (first ∷ []) (run more_loop tokens.now))) }
     ensures shorter { IfOk result (λ rest. length rest.now < length tokens.now) }
 {
@@ -253,7 +212,7 @@ fn put_command<'t>(
     args: ArgumentList,
     stmts: &mut Body,
     tokens: &'t [Token],
-) -> Result<&'t [Token], TreeFault>
+) -> Rest<'t>
     ensures exact { Puts stmts.old stmts.new result (ended_at (command (call_of object.now op.now args) end) tokens.now) }
     ensures shorter { IfOk result (λ rest. length rest.now < length tokens.now) }
 {
@@ -264,12 +223,7 @@ fn put_command<'t>(
 
 // Adds what gives a variable its value, after the =: a request's reply, or an expression's value.
 #[inline(always)]
-fn assigned<'t>(
-    alloc: Global,
-    variable: &Name,
-    stmts: &mut Body,
-    tokens: &'t [Token],
-) -> Result<&'t [Token], TreeFault>
+fn assigned<'t>(alloc: Global, variable: &Name, stmts: &mut Body, tokens: &'t [Token]) -> Rest<'t>
     ensures exact { Puts stmts.old stmts.new result (assigned_at variable.now tokens.now) }
     ensures shorter { IfOk result (λ rest. length rest.now < length tokens.now) }
 {
@@ -289,7 +243,7 @@ fn query<'t>(
     object: &Name,
     stmts: &mut Body,
     tokens: &'t [Token],
-) -> Result<&'t [Token], TreeFault>
+) -> Rest<'t>
     ensures exact { Puts stmts.old stmts.new result (query_at variable.now object.now tokens.now) }
     ensures shorter { IfOk result (λ rest. length rest.now < length tokens.now) }
 {
@@ -301,11 +255,7 @@ fn query<'t>(
 
 // Adds an assignment of an expression's value, after the =.
 #[inline(never)]
-fn assignment<'t>(
-    variable: &Name,
-    stmts: &mut Body,
-    tokens: &'t [Token],
-) -> Result<&'t [Token], TreeFault>
+fn assignment<'t>(variable: &Name, stmts: &mut Body, tokens: &'t [Token]) -> Rest<'t>
     ensures exact { Puts stmts.old stmts.new result (assign_at variable.now tokens.now) }
     ensures shorter { IfOk result (λ rest. length rest.now < length tokens.now) }
 {
@@ -328,7 +278,7 @@ fn computation<'t>(
     operator: Operator,
     stmts: &mut Body,
     tokens: &'t [Token],
-) -> Result<&'t [Token], TreeFault>
+) -> Rest<'t>
     ensures exact { Puts stmts.old stmts.new result (computed_at variable.now first operator tokens.now) }
     ensures shorter { IfOk result (λ rest. length rest.now < length tokens.now) }
 {
@@ -340,7 +290,7 @@ fn computation<'t>(
 
 // What comes after a semicolon.
 #[inline(always)]
-fn past_semicolon(tokens: &[Token]) -> Result<&[Token], TreeFault>
+fn past_semicolon(tokens: &[Token]) -> Rest
     ensures exact { Gives (λ rest. rest.now) result (semicolon_at tokens.now) }
     ensures shorter { IfOk result (λ rest. length rest.now < length tokens.now) }
 {
@@ -352,7 +302,7 @@ fn past_semicolon(tokens: &[Token]) -> Result<&[Token], TreeFault>
 
 // Adds the statement, and gives the tokens after it back.
 #[inline(always)]
-fn put<'t>(stmts: &mut Body, stmt: Stmt, rest: &'t [Token]) -> Result<&'t [Token], TreeFault>
+fn put<'t>(stmts: &mut Body, stmt: Stmt, rest: &'t [Token]) -> Rest<'t>
     ensures exact { Puts stmts.old stmts.new result (Ok (single stmt, rest.now)) }
     ensures same { IfOk result (λ left. left.now ≡ rest.now) }
 {

@@ -1,57 +1,41 @@
 // Templates, and clients of templates.
 
-ghost use Rattle.std.specs.Prelude.{◌<◌, [], ◌∷◌, length, IfOk};
-ghost use Rattle.qs_script.specs.grammar.Reading.{after, run, formal_at, further_formal_at, formals_loop, further_name_at, given_loop, template_at, template_called_at, template_blocks_at, started_at, started_with_at};
+ghost use Rattle.std.specs.Prelude.{◌<◌, length, IfOk};
+ghost use Rattle.qs_script.specs.grammar.Reading.{kind_word_at, formal_at, template_at, template_called_at, started_at};
 ghost use Rattle.qs_script.specs.Results.{Gives};
 
-use crate::expect::{name as expect_name, past_close_paren};
-use crate::fault::TreeFault;
+use crate::expect::{name as expect_name, past_close_paren, past_open_brace};
+use crate::fault::{Read, TreeFault};
 use crate::items::blocks;
-use crate::lists::{Listing, list};
+use crate::lists::{Listing, from_first};
 use crate::tokens::{Name, Token};
-use crate::tree::{Formal, Formals, Item, KindWord, NameList, StartedItem, TemplateItem, add};
+use crate::tree::{Formal, Formals, Item, KindWord, NameList, StartedItem, TemplateItem};
 use std::alloc::Global;
 
+// The kind of a formal.
+fn kind_word(tokens: &[Token]) -> Read<KindWord>
+    ensures exact { Gives (λ x. (x.0, x.1.now)) result (kind_word_at tokens.now) }
+    ensures shorter { IfOk result (λ x. length x.1.now < length tokens.now) }
+{
+    match tokens {
+        [Token::Account, rest @ ..] => Ok((KindWord::Account, rest)),
+        [Token::Buffer, rest @ ..] => Ok((KindWord::Buffer, rest)),
+        [Token::Grid, rest @ ..] => Ok((KindWord::Grid, rest)),
+        _ => Err(TreeFault::Form(tokens.len())),
+    }
+}
+
 // A formal: its kind and its name.
-fn formal(tokens: &[Token]) -> Result<(Formal, &[Token]), TreeFault>
+fn formal(tokens: &[Token]) -> Read<Formal>
     ensures exact { Gives (λ x. (x.0, x.1.now)) result (formal_at tokens.now) }
     ensures shorter { IfOk result (λ x. length x.1.now < length tokens.now) }
 {
-    match tokens {
-        [Token::Account, Token::Name(name), rest @ ..] => {
-            let kind = KindWord::Account;
-            let name = name.copied();
-            Ok((Formal { kind, name }, rest))
-        }
-        [Token::Buffer, Token::Name(name), rest @ ..] => {
-            let kind = KindWord::Buffer;
-            let name = name.copied();
-            Ok((Formal { kind, name }, rest))
-        }
-        [Token::Grid, Token::Name(name), rest @ ..] => {
-            let kind = KindWord::Grid;
-            let name = name.copied();
-            Ok((Formal { kind, name }, rest))
-        }
-        [Token::Account | Token::Buffer | Token::Grid, rest @ ..] => Err(TreeFault::Form(
-            rest.len(),
-        )),
-        _ => Err(TreeFault::Form(tokens.len())),
-    }
+    let (kind, rest) = kind_word(tokens)?;
+    let (name, rest) = expect_name(rest)?;
+    Ok((Formal { kind, name }, rest))
 }
 
-// A further formal.
-fn further_formal(tokens: &[Token]) -> Result<(Formal, &[Token]), TreeFault>
-    ensures exact { Gives (λ x. (x.0, x.1.now)) result (further_formal_at tokens.now) }
-    ensures shorter { IfOk result (λ x. length x.1.now < length tokens.now) }
-{
-    match tokens {
-        [Token::Comma, rest @ ..] => formal(rest),
-        _ => Err(TreeFault::Form(tokens.len())),
-    }
-}
-
-// Formals up to the bracket that closes them.
+// Further formals up to the bracket that closes them.
 struct FurtherFormals;
 
 impl Listing for FurtherFormals {
@@ -67,34 +51,15 @@ impl Listing for FurtherFormals {
         past_close_paren(tokens)
     }
 
-    fn element(alloc: Global, tokens: &[Token]) -> Result<(Formal, &[Token]), TreeFault> {
-        further_formal(tokens)
+    fn element(alloc: Global, tokens: &[Token]) -> Read<Formal> {
+        match tokens {
+            [Token::Comma, rest @ ..] => formal(rest),
+            _ => Err(TreeFault::Form(tokens.len())),
+        }
     }
 }
 
-// The formals after the first, and the bracket that closes them.
-fn formals(alloc: Global, first: Formal, tokens: &[Token]) -> Result<(Formals, &[Token]), TreeFault>
-    ensures exact { Gives (λ x. (x.0, x.1.now)) result (after formals_loop (first ∷ []) (run formals_loop tokens.now)) }
-    ensures shorter { IfOk result (λ x. length x.1.now < length tokens.now) }
-{
-    let mut formals = Vec::new(alloc);
-    add(&mut formals, first)?;
-    let (formals, rest) = list::<FurtherFormals>(alloc, formals, tokens)?;
-    Ok((Formals::of(formals), rest))
-}
-
-// A further name.
-fn further_name(tokens: &[Token]) -> Result<(Name, &[Token]), TreeFault>
-    ensures exact { Gives (λ x. (x.0, x.1.now)) result (further_name_at tokens.now) }
-    ensures shorter { IfOk result (λ x. length x.1.now < length tokens.now) }
-{
-    match tokens {
-        [Token::Comma, rest @ ..] => expect_name(rest),
-        _ => Err(TreeFault::Form(tokens.len())),
-    }
-}
-
-// Names up to the bracket that closes them.
+// Further names up to the bracket that closes them.
 struct FurtherNames;
 
 impl Listing for FurtherNames {
@@ -110,24 +75,16 @@ impl Listing for FurtherNames {
         past_close_paren(tokens)
     }
 
-    fn element(alloc: Global, tokens: &[Token]) -> Result<(Name, &[Token]), TreeFault> {
-        further_name(tokens)
+    fn element(alloc: Global, tokens: &[Token]) -> Read<Name> {
+        match tokens {
+            [Token::Comma, rest @ ..] => expect_name(rest),
+            _ => Err(TreeFault::Form(tokens.len())),
+        }
     }
 }
 
-// The names after the first, and the bracket that closes them.
-fn given(alloc: Global, first: Name, tokens: &[Token]) -> Result<(NameList, &[Token]), TreeFault>
-    ensures exact { Gives (λ x. (x.0, x.1.now)) result (after given_loop (first ∷ []) (run given_loop tokens.now)) }
-    ensures shorter { IfOk result (λ x. length x.1.now < length tokens.now) }
-{
-    let mut names = Vec::new(alloc);
-    add(&mut names, first)?;
-    let (names, rest) = list::<FurtherNames>(alloc, names, tokens)?;
-    Ok((NameList::of(names), rest))
-}
-
 // A template, after that word.
-pub(crate) fn template(alloc: Global, tokens: &[Token]) -> Result<(Item, &[Token]), TreeFault>
+pub(crate) fn template(alloc: Global, tokens: &[Token]) -> Read<Item>
     ensures exact { Gives (λ x. (x.0, x.1.now)) result (template_at tokens.now) }
     ensures shorter { IfOk result (λ x. length x.1.now < length tokens.now) }
 {
@@ -141,77 +98,39 @@ pub(crate) fn template(alloc: Global, tokens: &[Token]) -> Result<(Item, &[Token
 }
 
 // The template of that name, from its first formal on.
-fn template_called(
-    alloc: Global,
-    name: Name,
-    tokens: &[Token],
-) -> Result<(Item, &[Token]), TreeFault>
+fn template_called(alloc: Global, name: Name, tokens: &[Token]) -> Read<Item>
     ensures exact { Gives (λ x. (x.0, x.1.now)) result (template_called_at name tokens.now) }
     ensures shorter { IfOk result (λ x. length x.1.now < length tokens.now) }
 {
     let (first, rest) = formal(tokens)?;
-    let (formals, rest) = formals(alloc, first, rest)?;
-    template_blocks(alloc, name, formals, rest)
-}
-
-// The blocks of a template, with the brace that opens them.
-fn template_blocks(
-    alloc: Global,
-    name: Name,
-    formals: Formals,
-    tokens: &[Token],
-) -> Result<(Item, &[Token]), TreeFault>
-    ensures exact { Gives (λ x. (x.0, x.1.now)) result (template_blocks_at name formals tokens.now) }
-    ensures shorter { IfOk result (λ x. length x.1.now < length tokens.now) }
-{
-    match tokens {
-        [Token::OpenBrace, rest @ ..] => {
-            let (blocks, rest) = blocks(alloc, rest)?;
-            let item = TemplateItem {
-                name,
-                formals,
-                blocks,
-            };
-            Ok((Item::Template(item), rest))
-        }
-        _ => Err(TreeFault::Form(tokens.len())),
-    }
+    let (formals, rest) = from_first::<FurtherFormals>(alloc, 0, first, rest)?;
+    let Some(rest) = past_open_brace(rest) else {
+        return Err(TreeFault::Form(rest.len()));
+    };
+    let (blocks, rest) = blocks(alloc, rest)?;
+    let item = TemplateItem {
+        name,
+        formals: Formals::of(formals),
+        blocks,
+    };
+    Ok((Item::Template(item), rest))
 }
 
 // The client of that name, from its template on.
-pub(crate) fn started(
-    alloc: Global,
-    name: Name,
-    tokens: &[Token],
-) -> Result<(Item, &[Token]), TreeFault>
+pub(crate) fn started(alloc: Global, name: Name, tokens: &[Token]) -> Read<Item>
     ensures exact { Gives (λ x. (x.0, x.1.now)) result (started_at name tokens.now) }
     ensures shorter { IfOk result (λ x. length x.1.now < length tokens.now) }
 {
-    match tokens {
-        [Token::Name(template), Token::OpenParen, rest @ ..] => {
-            started_with(alloc, name, template.copied(), rest)
-        }
-        [Token::Name(_), rest @ ..] => Err(TreeFault::Form(rest.len())),
-        _ => Err(TreeFault::Form(tokens.len())),
-    }
-}
-
-// The client of that name and template, from its first object on.
-fn started_with(
-    alloc: Global,
-    name: Name,
-    template: Name,
-    tokens: &[Token],
-) -> Result<(Item, &[Token]), TreeFault>
-    ensures exact { Gives (λ x. (x.0, x.1.now)) result (started_with_at name template tokens.now) }
-    ensures shorter { IfOk result (λ x. length x.1.now < length tokens.now) }
-{
-    let (first, rest) = expect_name(tokens)?;
-    let (objects, rest) = given(alloc, first, rest)?;
+    let (template, rest) = expect_name(tokens)?;
+    let [Token::OpenParen, rest @ ..] = rest else {
+        return Err(TreeFault::Form(rest.len()));
+    };
+    let (first, rest) = expect_name(rest)?;
+    let (objects, rest) = from_first::<FurtherNames>(alloc, 0, first, rest)?;
     let item = StartedItem {
         name,
         template,
-        objects,
+        objects: NameList::of(objects),
     };
     Ok((Item::Started(item), rest))
 }

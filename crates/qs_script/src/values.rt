@@ -6,13 +6,13 @@ ghost use Rattle.qs_script.specs.tree.Tree.{call_of};
 ghost use Rattle.qs_script.specs.Results.{Gives, Finds};
 
 use crate::expect::past_close_paren;
-use crate::fault::TreeFault;
+use crate::fault::{Read, TreeFault};
 use crate::tokens::{Name, Token};
 use crate::tree::{ArgumentList, Atom, Operator, Relation, Test};
 use std::alloc::Global;
 
 #[inline(always)]
-pub(crate) fn atom(tokens: &[Token]) -> Result<(Atom, &[Token]), TreeFault>
+pub(crate) fn atom(tokens: &[Token]) -> Read<Atom>
     ensures exact { Gives (λ x. (x.0, x.1.now)) result (atom_at tokens.now) }
     ensures shorter { IfOk result (λ x. length x.1.now < length tokens.now) }
 {
@@ -28,7 +28,7 @@ pub(crate) fn atom(tokens: &[Token]) -> Result<(Atom, &[Token]), TreeFault>
 }
 
 // A further argument.
-fn further(tokens: &[Token]) -> Result<(Atom, &[Token]), TreeFault>
+fn further(tokens: &[Token]) -> Read<Atom>
     ensures exact { Gives (λ x. (x.0, x.1.now)) result (further_at tokens.now) }
     ensures shorter { IfOk result (λ x. length x.1.now < length tokens.now) }
 {
@@ -40,7 +40,7 @@ fn further(tokens: &[Token]) -> Result<(Atom, &[Token]), TreeFault>
 
 // The arguments after the first, and the bracket that closes them.
 #[inline(always)]
-fn more(alloc: Global, first: Atom, tokens: &[Token]) -> Result<(ArgumentList, &[Token]), TreeFault>
+fn more(alloc: Global, first: Atom, tokens: &[Token]) -> Read<ArgumentList>
     ensures exact { Gives (λ x. (x.0, x.1.now)) result (after more_loop (first ∷ []) (run more_loop tokens.now)) }
     ensures shorter { IfOk result (λ x. length x.1.now < length tokens.now) }
 {
@@ -52,11 +52,7 @@ fn more(alloc: Global, first: Atom, tokens: &[Token]) -> Result<(ArgumentList, &
 
 // The arguments from a first one on, of which more may come.
 #[inline(never)]
-pub(crate) fn several(
-    alloc: Global,
-    first: Atom,
-    tokens: &[Token],
-) -> Result<(ArgumentList, &[Token]), TreeFault>
+pub(crate) fn several(alloc: Global, first: Atom, tokens: &[Token]) -> Read<ArgumentList>
     ensures exact { Gives (λ x. (x.0, x.1.now)) result (after more_loop (first ∷ []) (run more_loop tokens.now)) }
     ensures shorter { IfOk result (λ x. length x.1.now < length tokens.now) }
 {
@@ -74,7 +70,7 @@ pub(crate) fn several(
 
 // The arguments, and the bracket that closes them.
 #[inline(always)]
-pub(crate) fn args(alloc: Global, tokens: &[Token]) -> Result<(ArgumentList, &[Token]), TreeFault>
+pub(crate) fn args(alloc: Global, tokens: &[Token]) -> Read<ArgumentList>
     ensures exact { Gives (λ x. (x.0, x.1.now)) result (args_at tokens.now) }
     ensures shorter { IfOk result (λ x. length x.1.now < length tokens.now) }
 {
@@ -117,7 +113,7 @@ pub(crate) fn operator(tokens: &[Token]) -> Option<(Operator, &[Token])>
     }
 }
 
-fn relation(tokens: &[Token]) -> Result<(Relation, &[Token]), TreeFault>
+fn relation(tokens: &[Token]) -> Read<Relation>
     ensures exact { Gives (λ x. (x.0, x.1.now)) result (relation_at tokens.now) }
     ensures shorter { IfOk result (λ x. length x.1.now < length tokens.now) }
 {
@@ -132,7 +128,7 @@ fn relation(tokens: &[Token]) -> Result<(Relation, &[Token]), TreeFault>
     }
 }
 
-pub(crate) fn test(tokens: &[Token]) -> Result<(Test, &[Token]), TreeFault>
+pub(crate) fn test(tokens: &[Token]) -> Read<Test>
     ensures exact { Gives (λ x. (x.0, x.1.now)) result (test_at tokens.now) }
     ensures shorter { IfOk result (λ x. length x.1.now < length tokens.now) }
 {

@@ -3,7 +3,7 @@
 use Rattle.std.proofs.Common.{◌≡◌, ◌<◌, ◌+◌, ℕ, zero, suc, Bool, true, false, List, [], ◌∷◌, length, take, Some, None, if◌then◌else◌, arith, nat_lt, length-append, ltb-true}
 use Rattle.qs_script.specs.declared.tree.tree.Block.{Block}
 use Rattle.qs_script.specs.declared.tree.tree.Item.{Item}
-use Rattle.qs_script.specs.declared.tree.tree.Item.TheVariants.{Object, Client, Template, Started}
+use Rattle.qs_script.specs.declared.tree.tree.Item.TheVariants.{Client, Started}
 use Rattle.qs_check.specs.anchors.Anchors.{block_anchors, blocks_anchors, item_anchors, script_anchors}
 use Rattle.qs_check.specs.anchors.Blocks.{own_number, block_number}
 
@@ -29,14 +29,13 @@ after n i is m h = omega (arith, h, length-append (item_anchors i) (script_ancho
 
 within : (n : ℕ) (is : List Item) (c k m : ℕ) → block_number n is c k ≡ Some m → m < n + length (script_anchors is)
 within n [] c k m h = cc
-within n (Object o ∷ is) c k m h = after n (Object o) is m (within (n + length (item_anchors (Object o))) is c k m h)
-within n (Template t ∷ is) c k m h = after n (Template t) is m (within (n + length (item_anchors (Template t))) is c k m h)
 within n (Client i ∷ is) zero k m h = omega (arith, own_within n i.blocks k m h, length-append (item_anchors (Client i)) (script_anchors is))
 within n (Client i ∷ is) (suc c) k m h = after n (Client i) is m (within (n + length (item_anchors (Client i))) is c k m h)
 within n (Started i ∷ is) zero k m h =
     let here : n ≡ m = cc in
     omega (arith, here, length-append (item_anchors (Started i)) (script_anchors is))
 within n (Started i ∷ is) (suc c) k m h = after n (Started i) is m (within (n + length (item_anchors (Started i))) is c k m h)
+within n (i ∷ is) c k m h = after n i is m (within (n + length (item_anchors i)) is c k m h)
 
 pub blocks_have_anchors : (is : List Item) (c k m : ℕ) → block_number 0 is c k ≡ Some m → m < length (script_anchors is)
 blocks_have_anchors is c k m h = omega (arith, within 0 is c k m h)

@@ -39,9 +39,8 @@ one_atom (Number z) = refl
 
 two_atoms : (a b : Atom) → at_anchors (atom_anchor a ∷ atom_anchor b ∷ []) ≡ atom_places a ++ atom_places b
 two_atoms (Variable x) (Variable y) = refl
-two_atoms (Variable x) (Number z) = refl
 two_atoms (Number z) (Variable y) = refl
-two_atoms (Number z) (Number w) = refl
+two_atoms _ _ = refl
 
 atoms : (xs : List Atom) → at_anchors (map atom_anchor xs) ≡ atoms_places xs
 atoms [] = refl

@@ -1,6 +1,7 @@
 -- The anchors of a tree are those of any tokens that are written for it. By induction on the tree: each part has its
 -- anchors first, and then those of the tokens after it.
-use Rattle.std.proofs.Common.{◌≡◌, ℕ, zero, suc, inl, inr, List, [], ◌∷◌, ◌++◌, Bool, true, false, map, refl, ap, sym, ◌∙◌, pos, neg_ℤ, unsigned_abs, append-nil}
+use Rattle.std.proofs.Common.{◌≡◌, ℕ, zero, suc, inl, inr, List, [], ◌∷◌, ◌++◌, Bool, true, false, map, refl, ap, sym, ◌∙◌, pos, neg_ℤ, unsigned_abs, append-nil, append_assoc}
+use Rattle.std.proofs.lemmas.List.{map-append}
 use Rattle.qs_script.specs.declared.tokens.token.Token.{Token}
 use Rattle.qs_script.specs.declared.tree.tree.Atom.{Atom}
 use Rattle.qs_script.specs.declared.tree.tree.Atom.TheVariants.{Variable, Number}
@@ -29,12 +30,8 @@ use Rattle.qs_check.specs.declared.anchors.anchor.Anchor.TheVariants as m
 use Rattle.qs_check.specs.anchors.Anchors.{anchor_token, anchors_in, atom_anchor, expr_anchors, test_anchors, call_anchors, anchors, block_anchors, blocks_anchors, kind_anchors, formal_anchor, given_anchors, item_anchors, script_anchors}
 
 -- some anchors, and others after them
-parts : (ms ns : List Anchor) (ws : List Token) → map anchor_token (ms ++ ns) ++ ws ≡ map anchor_token ms ++ (map anchor_token ns ++ ws)
-parts [] ns ws = refl
-parts (x ∷ ms) ns ws = ap (λ us. anchor_token x ∷ us) (parts ms ns ws)
-
 joined : (ms ns : List Anchor) (us vs ws : List Token) → us ≡ map anchor_token ms ++ vs → vs ≡ map anchor_token ns ++ ws → us ≡ map anchor_token (ms ++ ns) ++ ws
-joined ms ns us vs ws p q = p ∙ ap (λ x. map anchor_token ms ++ x) q ∙ sym (parts ms ns ws)
+joined ms ns us vs ws p q = p ∙ ap (λ x. map anchor_token ms ++ x) q ∙ sym (simp (map-append, append_assoc))
 
 abs_neg : (n : ℕ) → unsigned_abs (neg_ℤ (pos n)) ≡ n
 abs_neg zero = refl

@@ -1,7 +1,7 @@
 -- A walk stops only at one of the anchors that it goes through. By induction on the anchors, and then on the items.
 use Rattle.std.proofs.Common.{◌≡◌, ℕ, ◌+◌, ◌<◌, List, [], ◌∷◌, length, ap, arith, length-append, Some, Ok, Err}
 use Rattle.qs_script.specs.declared.tree.tree.Item.{Item}
-use Rattle.qs_script.specs.declared.tree.tree.Item.TheVariants.{Object, Client, Template, Started}
+use Rattle.qs_script.specs.declared.tree.tree.Item.TheVariants.{Template}
 use Rattle.qs_check.specs.audit.fault_places.Places.{Scope, ScopeOrFault, scope_or_fault, start, pass_place, template, formal_kinds}
 use Rattle.qs_check.specs.declared.anchors.anchor.Anchor.{Anchor}
 use Rattle.qs_check.specs.declared.anchors.finding.Anchored.{Anchored}
@@ -36,14 +36,12 @@ from_outside e u (Ok t) h = tt
 from_outside e u (Err anchored) h = h
 
 item : (s : Scope) (n : ℕ) (i : Item) → StopsBelow (n + length (item_anchors i)) (item_anchored s n i)
-item s n (Object o) = stops s n (item_anchors (Object o))
-item s n (Client c) = stops s n (item_anchors (Client c))
 item s n (Template t) =
     let inner : ScopeOrAnchored = scope_or_anchored start (n + 1) (text_anchors t) in
     at_one n (n + length (item_anchors (Template t))) (pass_place s (template t.name (formal_kinds t.formals))) (λ u. outside u inner) (omega arith)
     (λ u. from_outside (n + length (item_anchors (Template t))) u inner
     (further (n + 1 + length (text_anchors t)) (n + length (item_anchors (Template t))) inner (omega arith) (stops start (n + 1) (text_anchors t))))
-item s n (Started c) = stops s n (item_anchors (Started c))
+item s n i = stops s n (item_anchors i)
 
 items : (s : Scope) (n : ℕ) (is : List Item) → StopsBelow (n + length (script_anchors is)) (items_anchored s n is)
 items s n [] = tt

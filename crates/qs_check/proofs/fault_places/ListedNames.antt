@@ -4,8 +4,9 @@ use Rattle.std.proofs.Common.{◌≡◌, ℕ, Bool, true, false, ◌||◌, ◌==
 use Rattle.std.proofs.Math.ListN.{get_or-append}
 use Rattle.std.proofs.lemmas.List.{map-append}
 use Rattle.std.specs.Cmp.Lexicographic.{same_text}
-use Rattle.std.specs.List.{AllByRecursion, list_any}
+use Rattle.std.specs.List.{list_any}
 use Rattle.qs_program.specs.audit.Numbering.{Name, same_name, is_among, found_at}
+use Rattle.qs_check.proofs.fault_places.Inner.{all_both}
 use Rattle.qs_program.proofs.Found.{same_name-refl, is_among-append, found_within, found_append, name_at, same, apart}
 use Rattle.qs_check.specs.fault_places.Listed.{names_at, IsFirst, AreFirst}
 
@@ -30,17 +31,13 @@ names_append objects o (i ∷ is) f = rw (get_or-append objects (o ∷ []) [] i 
 
 -- ---- a further number
 
-all_more : {A : Type 0} (P : A → Type 0) (xs : List A) (x : A) → AllByRecursion P xs → P x → AllByRecursion P (xs ++ x ∷ [])
-all_more P [] x all p = (p, tt)
-all_more P (y ∷ ys) x all p = (all.0, all_more P ys x all.1 p)
-
 found_first : (objects : List Name) (o : Name) → is_among objects o ≡ true → IsFirst objects (found_at objects o)
 found_first objects o h =
     let here : get_or objects (found_at objects o) [] ≡ o = sym (name_at objects o h) in
     record { within = found_within objects o h; among = rw here h; first = ap (found_at objects) here }
 
 pub are_first_more : (objects : List Name) (numbers : List ℕ) (o : Name) → AreFirst objects numbers → is_among objects o ≡ true → AreFirst objects (numbers ++ found_at objects o ∷ [])
-are_first_more objects numbers o f h = all_more (IsFirst objects) numbers (found_at objects o) f (found_first objects o h)
+are_first_more objects numbers o f h = all_both (IsFirst objects) numbers (found_at objects o ∷ []) f (found_first objects o h, tt)
 
 pub names_more : (objects : List Name) (numbers : List ℕ) (o : Name) → is_among objects o ≡ true → names_at objects (numbers ++ found_at objects o ∷ []) ≡ names_at objects numbers ++ o ∷ []
 names_more objects numbers o h = map-append (λ i. get_or objects i []) numbers (found_at objects o ∷ []) ∙ ap (λ n. names_at objects numbers ++ n ∷ []) (sym (name_at objects o h))

@@ -1,115 +1,86 @@
--- The places of a block leave the objects and the clients as they are, add one block, and keep the number of variables
--- within its limit. The proofs that a script with no fault is well formed and sound use this to know the scope after
--- each client. It goes by induction on the places, and then on a client's blocks.
-use Rattle.std.proofs.Common.{◌≡◌, ℕ, ◌+◌, ◌<◌, ◌≤◌, false, List, [], ◌∷◌, ◌++◌, length, refl, ap, sym, ◌∙◌, subst, arith, Ok}
+-- The places of a block leave the objects and the clients as they are and add one block, and each place keeps what is
+-- known within the limits. The proofs that a script with no fault is well formed and sound use this to know the scope
+-- after each client. It goes by induction on the places, and then on a client's blocks.
+use Rattle.std.proofs.Common.{◌≡◌, ℕ, suc, ◌+◌, ◌<◌, ◌≤◌, Bool, true, false, List, [], ◌∷◌, ◌++◌, length, refl, ap, sym, ◌∙◌, arith, length-append, Ok, if◌then◌else◌}
+use Rattle.std.specs.List.{AllByRecursion}
 use Rattle.qs_script.specs.declared.tree.tree.Block.{Block}
-use Rattle.qs_program.specs.audit.Numbering.{Name}
-use Rattle.qs_program.specs.audit.Limits.{most_blocks, most_variables}
-use Rattle.qs_check.specs.audit.fault_places.Places.{Scope, TextPlace, number, separate, listed, target, operation, arguments, variable, leaves, scope_or_fault, places, listed_places, block_places, blocks_places, scope_of_block, with_listed}
-use Rattle.qs_check.proofs.fault_places.Steps.{split, ok_same}
-use Rattle.qs_check.proofs.fault_places.Inner.{Inner, parted, inner_body}
+use Rattle.qs_program.specs.audit.Numbering.{Name, is_among}
+use Rattle.qs_program.specs.audit.Limits.{most_blocks, most_clients, most_objects, most_variables}
+use Rattle.qs_check.specs.audit.fault_places.Places.{Scope, TextPlace, object, client, separate, listed, variable, template, scope_or_fault, places, listed_places, block_places, blocks_places, scope_of_block, start, most_templates}
+use Rattle.qs_check.proofs.fault_places.Steps.{next_scope, Tells, split, ok_same}
+use Rattle.qs_check.proofs.fault_places.Inner.{Inner, kept_by_one, parted, inner_body}
 
--- the objects, the clients and the number of blocks stay, and the variables stay few
-pub record Stays (s t : Scope) : Type 0 where
-  pub objects : t.objects ≡ s.objects
-  pub kinds : t.kinds ≡ s.kinds
-  pub clients : t.clients ≡ s.clients
-  pub templates : t.templates ≡ s.templates
-  pub formals : t.formals ≡ s.formals
-  pub blocks : t.blocks ≡ s.blocks
-  pub few : length s.variables ≤ most_variables → length t.variables ≤ most_variables
+-- all counts are in their limits
+pub record InLimits (s : Scope) : Type 0 where
+  pub objects : length s.objects ≤ most_objects
+  pub clients : length s.clients ≤ most_clients
+  pub templates : length s.templates ≤ most_templates
+  pub blocks : s.blocks ≤ most_blocks
+  pub variables : length s.variables ≤ most_variables
 
--- no place of an object, a client or a block
+pub none_yet : InLimits start
+none_yet = record { objects = omega arith; clients = omega arith; templates = omega arith; blocks = omega arith; variables = omega arith }
+
+few_named : (names : List Name) (x : Name) (b : Bool) → (b ≡ false → length names < most_variables) → length names ≤ most_variables → length (if b then names else names ++ x ∷ []) ≤ most_variables
+few_named names x true h l = l
+few_named names x false h l = rw length-append (omega (arith, h refl))
+
+limits_by_one : (s : Scope) (p : TextPlace) → Tells s p → InLimits s → InLimits (next_scope s p)
+limits_by_one s (object n k) h l =
+    record { objects = rw length-append (omega (arith, h.1)); clients = l.clients; templates = l.templates; blocks = l.blocks; variables = l.variables }
+limits_by_one s (client n) h l =
+    record { objects = l.objects; clients = rw length-append (omega (arith, h.1)); templates = l.templates; blocks = omega arith; variables = omega arith }
+limits_by_one s (template n ks) h l =
+    record { objects = l.objects; clients = l.clients; templates = rw length-append (omega (arith, h.1)); blocks = l.blocks; variables = l.variables }
+limits_by_one s separate h l =
+    record { objects = l.objects; clients = l.clients; templates = l.templates; blocks = omega (arith, h); variables = l.variables }
+limits_by_one s (variable x) h l =
+    record { objects = l.objects; clients = l.clients; templates = l.templates; blocks = l.blocks; variables = few_named s.variables x (is_among s.variables x) h l.variables }
+limits_by_one s (listed o) h l = record { objects = l.objects; clients = l.clients; templates = l.templates; blocks = l.blocks; variables = l.variables }
+limits_by_one s _ h l = l
+
+pub limits_met : (s t : Scope) (ps : List TextPlace) → scope_or_fault s ps ≡ Ok t → InLimits s → InLimits t
+limits_met s t [] h l = rw (ok_same s t h) l
+limits_met s t (p ∷ ps) h l = let w = split s t p ps h in limits_met (next_scope s p) t ps w.1 (limits_by_one s p w.0 l)
+
+-- the variables and the block's list are as in another scope
+abbrev pub in_block : Scope → Scope → Scope
+in_block s t = record s { variables = t.variables; reserved = t.reserved }
+
+-- places that change nothing else
 abbrev pub InBlock : List TextPlace → Type 0
-InBlock [] = Unit {0}
-InBlock (number low high n ∷ ps) = InBlock ps
-InBlock (listed o ∷ ps) = InBlock ps
-InBlock (target o ∷ ps) = InBlock ps
-InBlock (operation asks o op ∷ ps) = InBlock ps
-InBlock (arguments asks o op n ∷ ps) = InBlock ps
-InBlock (variable x ∷ ps) = InBlock ps
-InBlock (leaves inside ∷ ps) = InBlock ps
-InBlock _ = ⊥
+InBlock ps = AllByRecursion (λ p. (s : Scope) → next_scope s p ≡ in_block s (next_scope s p)) ps
 
 from_inner : (ps : List TextPlace) → Inner ps → InBlock ps
 from_inner [] i = tt
-from_inner (number low high n ∷ ps) i = from_inner ps i
-from_inner (listed o ∷ ps) i = absurd i
-from_inner (target o ∷ ps) i = from_inner ps i
-from_inner (operation asks o op ∷ ps) i = from_inner ps i
-from_inner (arguments asks o op n ∷ ps) i = from_inner ps i
-from_inner (variable x ∷ ps) i = from_inner ps i
-from_inner (leaves inside ∷ ps) i = from_inner ps i
-from_inner _ i = i
+from_inner (p ∷ ps) i = (λ s. kept_by_one s p i.0 ∙ ap (in_block s) (sym (kept_by_one s p i.0)), from_inner ps i.1)
 
 after_list : (names : List Name) (ps : List TextPlace) → InBlock ps → InBlock (listed_places names ++ ps)
 after_list [] ps i = i
-after_list (n ∷ names) ps i = after_list names ps i
+after_list (n ∷ names) ps i = (λ s. refl, after_list names ps i)
 
-same_scope : (s t : Scope) → t ≡ s → Stays s t
-same_scope s t e = let P : Scope → Type 0 = λ u. Stays s u in subst P (sym e) (record { objects = refl; kinds = refl; clients = refl; templates = refl; formals = refl; blocks = refl; few = λ h. h })
-
-pub then_stays : (s u t : Scope) → Stays s u → Stays u t → Stays s t
-then_stays s u t a b = record {
-  objects = b.objects ∙ a.objects;
-  kinds = b.kinds ∙ a.kinds;
-  clients = b.clients ∙ a.clients;
-  templates = b.templates ∙ a.templates;
-  formals = b.formals ∙ a.formals;
-  blocks = b.blocks ∙ a.blocks;
-  few = λ h. b.few (a.few h);
-}
-
-pub stays : (s t : Scope) (ps : List TextPlace) → InBlock ps → scope_or_fault s ps ≡ Ok t → Stays s t
-stays s t [] i h = same_scope s t (ok_same s t h)
-stays s t (number low high n ∷ ps) i h = let w = split s t (number low high n) ps h in then_stays s w.0 t (same_scope s w.0 w.1.2) (stays w.0 t ps i w.2)
-stays s t (listed o ∷ ps) i h =
-    let w = split s t (listed o) ps h in
-    let P : Scope → Type 0 = λ u. Stays s u in
-    let e : with_listed s o ≡ w.0 = sym w.1.2 in
-    then_stays s w.0 t (subst P e (record { objects = refl; kinds = refl; clients = refl; templates = refl; formals = refl; blocks = refl; few = λ h. h })) (stays w.0 t ps i w.2)
-stays s t (target o ∷ ps) i h = let w = split s t (target o) ps h in then_stays s w.0 t (same_scope s w.0 w.1.2) (stays w.0 t ps i w.2)
-stays s t (operation asks o op ∷ ps) i h = let w = split s t (operation asks o op) ps h in then_stays s w.0 t (same_scope s w.0 w.1.1) (stays w.0 t ps i w.2)
-stays s t (arguments asks o op n ∷ ps) i h = let w = split s t (arguments asks o op n) ps h in then_stays s w.0 t (same_scope s w.0 w.1.1) (stays w.0 t ps i w.2)
-stays s t (variable x ∷ ps) i h =
-    let w = split s t (variable x) ps h in
-    then_stays s w.0 t
-    (record { objects = ap (λ u. u.objects) w.1.0; kinds = ap (λ u. u.kinds) w.1.0; clients = ap (λ u. u.clients) w.1.0; templates = ap (λ u. u.templates) w.1.0; formals = ap (λ u. u.formals) w.1.0; blocks = ap (λ u. u.blocks) w.1.0; few = w.1.1 })
-    (stays w.0 t ps i w.2)
-stays s t (leaves inside ∷ ps) i h = let w = split s t (leaves inside) ps h in then_stays s w.0 t (same_scope s w.0 w.1) (stays w.0 t ps i w.2)
-stays s t _ i h = absurd i
+pub stays : (s t : Scope) (ps : List TextPlace) → InBlock ps → scope_or_fault s ps ≡ Ok t → t ≡ in_block s t
+stays s t [] i h = let e = ok_same s t h in e ∙ ap (in_block s) (sym e)
+stays s t (p ∷ ps) i h = stays (next_scope s p) t ps i.1 (split s t p ps h).1 ∙ ap (λ u. in_block u t) (i.0 s)
 
 -- after a block: one more block, and all else as before
-pub block_stays : (s t : Scope) (b : Block) → scope_or_fault s (block_places b) ≡ Ok t → (s.blocks < most_blocks) × Stays (scope_of_block s) t
+pub block_stays : (s t : Scope) (b : Block) → scope_or_fault s (block_places b) ≡ Ok t → t ≡ in_block (scope_of_block s) t
 block_stays s t b h =
-    let w = split s t separate (listed_places b.reserved ++ places false b.body) h in
-    let P : Scope → Type 0 = λ u. Stays u t in
-    (w.1.0, subst P w.1.1 (stays w.0 t (listed_places b.reserved ++ places false b.body) (after_list b.reserved (places false b.body) (from_inner (places false b.body) (inner_body false b.body))) w.2))
+    stays (scope_of_block s) t (listed_places b.reserved ++ places false b.body)
+    (after_list b.reserved (places false b.body) (from_inner (places false b.body) (inner_body false b.body)))
+    (split s t separate (listed_places b.reserved ++ places false b.body) h).1
 
--- after a client's blocks
-pub record Blocked (s t : Scope) (n : ℕ) : Type 0 where
-  pub objects : t.objects ≡ s.objects
-  pub kinds : t.kinds ≡ s.kinds
-  pub clients : t.clients ≡ s.clients
-  pub templates : t.templates ≡ s.templates
-  pub formals : t.formals ≡ s.formals
-  pub count : s.blocks ≤ most_blocks → s.blocks + n ≤ most_blocks
-  pub few : length s.variables ≤ most_variables → length t.variables ≤ most_variables
+-- after so many blocks of a client
+abbrev pub after_blocks : Scope → ℕ → Scope → Scope
+after_blocks s n t = record s { blocks = s.blocks + n; variables = t.variables; reserved = t.reserved }
 
-pub blocks_stay : (s t : Scope) (bs : List Block) → scope_or_fault s (blocks_places bs) ≡ Ok t → Blocked s t (length bs)
+pub blocks_stay : (s t : Scope) (bs : List Block) → scope_or_fault s (blocks_places bs) ≡ Ok t → t ≡ after_blocks s (length bs) t
 blocks_stay s t [] h =
     let e = ok_same s t h in
-    record { objects = ap (λ u. u.objects) e; kinds = ap (λ u. u.kinds) e; clients = ap (λ u. u.clients) e; templates = ap (λ u. u.templates) e; formals = ap (λ u. u.formals) e; count = λ h. omega arith; few = λ l. rw (ap (λ u. length u.variables) e) l }
+    let none : s.blocks ≡ s.blocks + 0 = omega arith in
+    e ∙ ap (in_block s) (sym e) ∙ (λ i. record s { blocks = none i; variables = t.variables; reserved = t.reserved })
 blocks_stay s t (b ∷ bs) h =
     let w = parted s t (block_places b) (blocks_places bs) h in
-    let one = block_stays s w.0 b w.1 in
-    let more = blocks_stay w.0 t bs w.2 in
-    record {
-      objects = more.objects ∙ one.1.objects;
-      kinds = more.kinds ∙ one.1.kinds;
-      clients = more.clients ∙ one.1.clients;
-      templates = more.templates ∙ one.1.templates;
-      formals = more.formals ∙ one.1.formals;
-      count = λ l. let now : w.0.blocks ≤ most_blocks = omega (arith, one.0, one.1.blocks) in omega (arith, more.count now, one.1.blocks);
-      few = λ l. more.few (one.1.few l);
-    }
+    let count : s.blocks + 1 + length bs ≡ s.blocks + suc (length bs) = omega arith in
+    blocks_stay w.0 t bs w.2 ∙ ap (λ u. after_blocks u (length bs) t) (block_stays s w.0 b w.1)
+    ∙ (λ i. record s { blocks = count i; variables = t.variables; reserved = t.reserved })

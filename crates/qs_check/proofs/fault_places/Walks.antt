@@ -1,12 +1,12 @@
 -- A walk over two lists of places fails where the first list fails, and otherwise goes on from the scope that the first
 -- list leaves. The loops of the check over statements, blocks and items stand on it; their invariant is that the walk
 -- over the places that are left ends as the walk over all places does. The first lemma goes by induction on the places.
-use Rattle.std.proofs.Common.{◌≡◌, ℕ, suc, ◌+◌, ◌<◌, Bool, true, false, List, [], ◌∷◌, ◌++◌, length, get_or, drop, refl, ap, sym, ◌∙◌, subst, append_assoc, append-nil, add-one, Result, Ok, Err, drop-cons}
+use Rattle.std.proofs.Common.{◌≡◌, ℕ, suc, ◌+◌, ◌<◌, Bool, List, [], ◌∷◌, ◌++◌, length, get_or, drop, refl, ap, sym, ◌∙◌, subst, append_assoc, append-nil, add-one, Result, Ok, Err, drop-cons}
 use Rattle.qs_script.specs.declared.tree.tree.Stmt.{Stmt}
-use Rattle.qs_script.specs.declared.tree.tree.Stmt.TheVariants.{Command, Query, Assign, If, IfElse, Repeat, Leave}
+use Rattle.qs_script.specs.declared.tree.tree.Stmt.TheVariants.{Leave}
 use Rattle.qs_script.specs.tree.Views.{stmts_of, single}
 use Rattle.qs_check.specs.declared.fault_places.fault.CheckFault.{CheckFault}
-use Rattle.qs_check.specs.audit.fault_places.Places.{Scope, TextPlace, ScopeOrFault, pass_place, scope_or_fault, then_at, places, number, variable, call_places, expr_places, test_places, at_each}
+use Rattle.qs_check.specs.audit.fault_places.Places.{Scope, TextPlace, ScopeOrFault, pass_place, scope_or_fault, then_at, places, at_each}
 use Rattle.qs_check.specs.fault_places.Places.{Fails, Meets}
 
 then_at-then : (r : ScopeOrFault) (f g h : Scope → ScopeOrFault) → ((t : Scope) → f t ≡ then_at (g t) h) → then_at r f ≡ then_at (then_at r g) h
@@ -31,20 +31,8 @@ pub at_each-drop : {A : Type 0} (f : A → List TextPlace) (xs : List A) (i : �
 at_each-drop f xs i d within = rw (drop-cons xs i d within, add-one) refl
 
 places-cons : (inside : Bool) (s : Stmt) (xs : List Stmt) → places inside (stmts_of (s ∷ xs)) ≡ places inside (single s) ++ places inside (stmts_of xs)
-places-cons inside (Command c) xs = ap (λ x. x ++ places inside (stmts_of xs)) (sym (append-nil (call_places false c)))
-places-cons inside (Query x c) xs = ap (λ y. (variable x ∷ y) ++ places inside (stmts_of xs)) (sym (append-nil (call_places true c)))
-places-cons inside (Assign x e) xs = ap (λ y. (variable x ∷ y) ++ places inside (stmts_of xs)) (sym (append-nil (expr_places e)))
-places-cons inside (If t first) xs =
-    let rest = places inside (stmts_of xs) in
-    ap (λ y. test_places t ++ (y ++ rest)) (sym (append-nil (places inside first)))
-    ∙ sym (append_assoc (test_places t) (places inside first ++ []) rest)
-places-cons inside (IfElse t first other) xs =
-    let rest = places inside (stmts_of xs) in
-    ap (λ y. test_places t ++ (places inside first ++ (y ++ rest))) (sym (append-nil (places inside other)))
-    ∙ ap (λ y. test_places t ++ y) (sym (append_assoc (places inside first) (places inside other ++ []) rest))
-    ∙ sym (append_assoc (test_places t) (places inside first ++ (places inside other ++ [])) rest)
-places-cons inside (Repeat n body) xs = ap (λ y. (number 0 1000 n ∷ y) ++ places inside (stmts_of xs)) (sym (append-nil (places true body)))
 places-cons inside Leave xs = refl
+places-cons inside _ xs = simp append_assoc
 
 pub places-drop : (inside : Bool) (xs : List Stmt) (i : ℕ) (d : Stmt) → i < length xs → places inside (stmts_of (drop i xs)) ≡ places inside (single (get_or xs i d)) ++ places inside (stmts_of (drop (i + 1) xs))
 places-drop inside xs i d within = rw (drop-cons xs i d within, add-one) (places-cons inside (get_or xs i d) (drop (suc i) xs))

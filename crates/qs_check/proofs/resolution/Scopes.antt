@@ -1,6 +1,7 @@
 -- What is known in a walk with objects and templates declared: their names, their kinds, and those of the templates'
 -- formals.
-use Rattle.std.proofs.Common.{◌≡◌, ℕ, List, [], ◌∷◌, ◌++◌, map, refl, ap}
+use Rattle.std.proofs.Common.{◌≡◌, ℕ, List, [], ◌∷◌, ◌++◌, map, sym}
+use Rattle.std.proofs.lemmas.List.{map-append}
 use Rattle.qs_objects.specs.declared.object.Kind.{Kind}
 use Rattle.qs_script.specs.declared.tree.tree.TemplateItem.{TemplateItem}
 use Rattle.qs_program.specs.declared.program.Declared.{Declared}
@@ -24,12 +25,10 @@ abbrev pub scope : List Declared → List TemplateItem → List Name → ℕ →
 scope D T clients blocks variables reserved = record { objects = names D; kinds = kinds D; clients = clients; templates = template_names T; formals = template_formals T; blocks = blocks; variables = variables; reserved = reserved }
 
 pub names_with : (D : List Declared) (d : Declared) → names D ++ d.name ∷ [] ≡ names (D ++ d ∷ [])
-names_with [] d = refl
-names_with (e ∷ D) d = ap (λ ns. e.name ∷ ns) (names_with D d)
+names_with D d = sym (map-append (λ (o : Declared). o.name) D (d ∷ []))
 
 kinds_with : (D : List Declared) (d : Declared) → kinds D ++ d.kind ∷ [] ≡ kinds (D ++ d ∷ [])
-kinds_with [] d = refl
-kinds_with (e ∷ D) d = ap (λ ks. e.kind ∷ ks) (kinds_with D d)
+kinds_with D d = sym (map-append (λ (o : Declared). o.kind) D (d ∷ []))
 
 pub grown : (D : List Declared) (T : List TemplateItem) (C : List Name) (n : ℕ) (V R : List Name) (d : Declared) → with_object (scope D T C n V R) d.name d.kind ≡ scope (D ++ d ∷ []) T C n V R
 grown D T C n V R d = λ i. record { objects = names_with D d i; kinds = kinds_with D d i; clients = C; templates = template_names T; formals = template_formals T; blocks = n; variables = V; reserved = R }

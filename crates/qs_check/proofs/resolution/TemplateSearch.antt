@@ -1,6 +1,6 @@
 -- The loop that looks for a template of a name over the items of a script finds the first one. The proof of the
 -- function that does this stands on it, and so does that a template which is found has the form of a script's.
-use Rattle.std.proofs.Common.{◌≡◌, ◌≢◌, ℕ, suc, ◌+◌, ◌<◌, ◌≤◌, Bool, true, false, List, [], ◌∷◌, length, map, get_or, drop, None, Some, refl, ap, sym, ◌∙◌, subst, add-one, arith, if◌then◌else◌, drop-cons}
+use Rattle.std.proofs.Common.{◌≡◌, ◌≢◌, ℕ, suc, ◌+◌, ◌<◌, ◌≤◌, Bool, true, false, List, [], ◌∷◌, length, map, get_or, drop, Some, refl, ap, sym, ◌∙◌, subst, add-one, arith, if◌then◌else◌, drop-cons}
 use Rattle.std.specs.List.{AllByRecursion}
 use Rattle.qs_objects.specs.declared.object.Kind.{Kind}
 use Rattle.qs_script.specs.tree.Form.{HasForm, IsFormed}
@@ -8,13 +8,11 @@ use Rattle.qs_script.specs.audit.tree.Limits.{most_levels}
 use Rattle.qs_script.specs.declared.tree.tree.Block.{Block}
 use Rattle.qs_script.specs.declared.tree.tree.TemplateItem.{TemplateItem}
 use Rattle.qs_script.specs.declared.tree.tree.Item.{Item}
-use Rattle.qs_script.specs.declared.tree.tree.Item.TheVariants.{Object, Client, Template, Started}
+use Rattle.qs_script.specs.declared.tree.tree.Item.TheVariants.{Template}
 use Rattle.qs_program.specs.audit.Numbering.{Name, same_name}
 use Rattle.qs_program.specs.audit.Program.{BlockShape}
 use Rattle.qs_program.specs.Sound.{levels_of}
-use Rattle.qs_check.specs.audit.fault_places.Places.{fault_of_text}
 use Rattle.qs_check.specs.audit.resolution.Resolve.{block_shape, template_called, templates_in}
-use Rattle.qs_check.specs.resolution.Resolve.{AreFaultless}
 use Rattle.qs_check.proofs.resolution.Resolving.{levels_same}
 
 module _ (xs : List Item) (i : ℕ) (item : Item) (within : i < length xs) (item_is : item ≡ get_or xs i item) (n : Name)
@@ -45,32 +43,22 @@ other_passed xs i item within item_is n so_far other = so_far ∙ next
         rw (drop-cons xs i item within, add-one)
         (ap (λ x. template_called (templates_in (x ∷ drop (suc i) xs)) n) (sym item_is) ∙ skipped item (drop (suc i) xs) n other)
 
-formed_if : (u t : TemplateItem) (ts : List TemplateItem) (n : Name) (b : Bool) → (if b then Some u else template_called ts n) ≡ Some t → AllByRecursion IsFormed u.blocks → (template_called ts n ≡ Some t → AllByRecursion IsFormed t.blocks) → AllByRecursion IsFormed t.blocks
-formed_if u t ts n true h one more =
-    let e : u ≡ t = cc in
-    let P : TemplateItem → Type 0 = λ v. AllByRecursion IsFormed v.blocks in
-    subst P e one
-formed_if u t ts n false h one more = more h
+-- what holds of each template holds of the one that is called
+pub called_with : (P : TemplateItem → Type 0) (ts : List TemplateItem) (n : Name) (t : TemplateItem) → AllByRecursion P ts → template_called ts n ≡ Some t → P t
+called_with P [] n t all h = cc
+called_with P (u ∷ ts) n t all h = by_test (same_name n u.name) (called_with P ts n t all.1) h
+  where
+    by_test : (b : Bool) → (template_called ts n ≡ Some t → P t) → (if b then Some u else template_called ts n) ≡ Some t → P t
+    by_test true later e = let same : u ≡ t = cc in subst P same all.0
+    by_test false later e = later e
 
-pub called_formed : (items : List Item) (n : Name) (t : TemplateItem) → HasForm items → template_called (templates_in items) n ≡ Some t → AllByRecursion IsFormed t.blocks
-called_formed [] n t form h = cc
-called_formed (Object o ∷ rest) n t form h = called_formed rest n t form.1 h
-called_formed (Client c ∷ rest) n t form h = called_formed rest n t form.1 h
-called_formed (Template u ∷ rest) n t form h = formed_if u t (templates_in rest) n (same_name n u.name) h form.0 (called_formed rest n t form.1)
-called_formed (Started c ∷ rest) n t form h = called_formed rest n t form.1 h
+abbrev pub IsFormedTemplate : TemplateItem → Type 0
+IsFormedTemplate t = AllByRecursion IsFormed t.blocks
 
-faultless_if : (u t : TemplateItem) (ts : List TemplateItem) (n : Name) (b : Bool) → (if b then Some u else template_called ts n) ≡ Some t
-    → fault_of_text u ≡ None → (template_called ts n ≡ Some t → fault_of_text t ≡ None) → fault_of_text t ≡ None
-faultless_if u t ts n true h one more =
-    let e : u ≡ t = cc in
-    let P : TemplateItem → Type 0 = λ v. fault_of_text v ≡ None in
-    subst P e one
-faultless_if u t ts n false h one more = more h
-
--- the text of a template that is called has no fault
-pub called_faultless : (ts : List TemplateItem) (n : Name) (t : TemplateItem) → AreFaultless ts → template_called ts n ≡ Some t → fault_of_text t ≡ None
-called_faultless [] n t all h = cc
-called_faultless (u ∷ ts) n t all h = faultless_if u t ts n (same_name n u.name) h all.0 (called_faultless ts n t all.1)
+pub all_formed : (items : List Item) → HasForm items → AllByRecursion IsFormedTemplate (templates_in items)
+all_formed [] form = tt
+all_formed (Template t ∷ rest) form = (form.0, all_formed rest form.1)
+all_formed (_ ∷ rest) form = all_formed rest form.1
 
 -- blocks by number are nested as the text's
 pub formed_levels : (os : List Name) (ks : List Kind) (vs : List Name) (bs : List Block) → AllByRecursion IsFormed bs → AllByRecursion (λ (b : BlockShape). levels_of b.body ≤ most_levels) (map (block_shape os ks vs) bs)

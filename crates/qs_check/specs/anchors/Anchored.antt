@@ -2,7 +2,7 @@
 use Rattle.std.specs.Prelude.{◌≡◌, ◌≢◌, ℕ, ◌+◌, List, [], ◌∷◌, length, Option, Some, None, Result, Ok, Err}
 use Rattle.qs_script.specs.declared.tree.tree.TemplateItem.{TemplateItem}
 use Rattle.qs_script.specs.declared.tree.tree.Item.{Item}
-use Rattle.qs_script.specs.declared.tree.tree.Item.TheVariants.{Object, Client, Template, Started}
+use Rattle.qs_script.specs.declared.tree.tree.Item.TheVariants.{Template}
 use Rattle.qs_check.specs.declared.fault_places.fault.CheckFault.TheVariants as f
 use Rattle.qs_check.specs.audit.fault_places.Places.{Scope, ScopeOrFault, template, scope_or_fault, start, pass_place, formal_kinds}
 use Rattle.qs_check.specs.declared.anchors.anchor.Anchor.{Anchor}
@@ -39,10 +39,8 @@ template_anchored s n t =
     (λ u. outside u (scope_or_anchored start (n + 1) (text_anchors t)))
 
 abbrev pub item_anchored : Scope → ℕ → Item → ScopeOrAnchored
-item_anchored s n (Object o) = scope_or_anchored s n (item_anchors (Object o))
-item_anchored s n (Client c) = scope_or_anchored s n (item_anchors (Client c))
 item_anchored s n (Template t) = template_anchored s n t
-item_anchored s n (Started c) = scope_or_anchored s n (item_anchors (Started c))
+item_anchored s n i = scope_or_anchored s n (item_anchors i)
 
 abbrev pub items_anchored : Scope → ℕ → List Item → ScopeOrAnchored
 items_anchored s n [] = Ok s

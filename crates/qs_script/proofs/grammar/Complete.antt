@@ -1,7 +1,7 @@
--- Whatever is a script by the grammar is read, and so a list of tokens has at most one tree. The promise of the reader
--- that it refuses no script stands on it. It goes by induction on the tree; the first token of each part tells it from
--- all others, and each part takes a token, so that the loops have steps enough.
-use Rattle.std.proofs.Common.{◌≡◌, ℕ, zero, suc, ◌<◌, inl, inr, List, [], ◌∷◌, length, refl, ap, sym, ◌∙◌, arith, Option, Some, None, Ok, Err}
+-- Whatever is a script by the grammar is read. The promise of the reader that it refuses no script stands on it. It
+-- goes by induction on the tree; the first token of each part tells it from all others, and each part takes a token, so
+-- that the loops have steps enough.
+use Rattle.std.proofs.Common.{◌≡◌, ℕ, zero, suc, ◌<◌, inl, inr, List, [], ◌∷◌, length, refl, ap, ◌∙◌, arith, Option, Some, None, Ok}
 use Rattle.qs_script.specs.Types.{Token, Atom, Variable, Number, Operator, Relation, Expr, Plain, Binary, Test, Call, Block, KindText, Account, KindWord, Formal, Item, Object, Client, Template, Started}
 use Rattle.qs_script.specs.declared.tokens.token.Token.TheVariants as t
 use Rattle.qs_script.specs.declared.tree.tree.Operator.TheVariants as o
@@ -10,7 +10,7 @@ use Rattle.qs_script.specs.declared.tree.tree.KindWord.TheVariants as kind
 use Rattle.qs_script.specs.audit.tree.Tree.{Stmts, end, command, query, assign, choose, choose_else, again, leave}
 use Rattle.qs_script.specs.grammar.Reading.{Read, run, one, list_loop, open_brace_at, close_brace_at, close_paren_at, atom_at, further_at, more_loop, args_at, call_at, operator_at, relation_at, expr_at, test_at, assign_at, assigned_at, other_at, stmt_at, body_loop, names_loop, name_at, separate_at, blocks_loop, kind_at, kind_word_at, formal_at, further_formal_at, formals_loop, formals_at, further_name_at, given_loop, given_at, item_at, end_at, items_loop}
 use Rattle.qs_script.specs.audit.grammar.Grammar.{IsAtom, AreMore, AreArgs, IsCall, operator_token, relation_token, IsExpr, IsTest, AreStmts, AreNames, AreSomeNames, IsBlock, AreBlocks, IsKind, kind_token, IsFormal, AreMoreFormals, AreFormals, AreMoreNames, AreGiven, IsItem, AreItems, IsScript}
-use Rattle.qs_script.proofs.grammar.Loops.{Runs, run_is, runs_stop, runs_element}
+use Rattle.qs_script.proofs.grammar.Loops.{Runs, run_is, runs_stop, runs_element, before_end}
 use Rattle.qs_script.proofs.grammar.Counts.{atom_shorter, call_shorter, expr_shorter, test_shorter, stmts_counted, block_counted, formal_shorter, item_counted}
 
 atom_complete : (a : Atom) (ts rest : List Token) → IsAtom a ts rest → atom_at ts ≡ Ok (a, rest)
@@ -25,16 +25,13 @@ atom_opens (Number z) ts rest (n, inr (e, h)) = rw h refl
 
 -- lists of what is read one by one
 module _ {A : Type 0} (stop : List Token → Option (List Token)) (element : List Token → Read A) where
-  list_stops : (ts rest : List Token) → stop ts ≡ Some rest → Runs (list_loop stop element) ts (Ok ([], rest))
-  list_stops ts rest e = runs_stop (list_loop stop element) ts rest e
-
   list_element : (ts : List Token) (a : A) (y : List Token) (xs : List A) (rest : List Token) → stop ts ≡ None → element ts ≡ Ok (a, y) → length y < length ts → Runs (list_loop stop element) y (Ok (xs, rest)) → Runs (list_loop stop element) ts (Ok (a ∷ xs, rest))
   list_element ts a y xs rest e s less h =
       runs_element (list_loop stop element) ts (a ∷ [], y) (Ok (xs, rest)) e (ap one s) less h
 
 -- arguments
 more_complete : (xs : List Atom) (ts rest : List Token) → AreMore xs ts (t.CloseParen ∷ rest) → Runs more_loop ts (Ok (xs, rest))
-more_complete [] ts rest h = list_stops close_paren_at further_at ts rest (rw h refl)
+more_complete [] ts rest h = runs_stop more_loop ts rest (rw h refl)
 more_complete (a ∷ xs) ts rest (x, y, e, h, k) =
     list_element close_paren_at further_at ts a y xs rest (rw e refl) (rw (e, atom_complete a x y h) refl) (rw e (omega (arith, atom_shorter a x y h))) (more_complete xs y rest k)
 
@@ -144,7 +141,7 @@ body_complete (suc n) (leave more) ts rest (y, e, k) =
 
 -- blocks and items
 names_complete : (ns : List (List ℕ)) (ts rest : List Token) → AreNames ns ts (t.OpenBrace ∷ rest) → Runs names_loop ts (Ok (ns, rest))
-names_complete [] ts rest h = list_stops open_brace_at name_at ts rest (rw h refl)
+names_complete [] ts rest h = runs_stop names_loop ts rest (rw h refl)
 names_complete (n ∷ ns) ts rest (x, e, h) =
     list_element open_brace_at name_at ts n x ns rest (rw e refl) (rw e refl) (rw e (omega arith)) (names_complete ns x rest h)
 
@@ -160,7 +157,7 @@ block_opens : (b : Block) (ts rest : List Token) → IsBlock b ts rest → close
 block_opens b ts rest (x, y, e, h, k) = rw e refl
 
 blocks_complete : (bs : List Block) (ts rest : List Token) → AreBlocks bs ts (t.CloseBrace ∷ rest) → Runs blocks_loop ts (Ok (bs, rest))
-blocks_complete [] ts rest h = list_stops close_brace_at separate_at ts rest (rw h refl)
+blocks_complete [] ts rest h = runs_stop blocks_loop ts rest (rw h refl)
 blocks_complete (b ∷ bs) ts rest (x, h, k) =
     list_element close_brace_at separate_at ts b x bs rest (block_opens b ts x h) (block_complete b ts x h) (omega (arith, block_counted b ts x h)) (blocks_complete bs x rest k)
 
@@ -177,7 +174,7 @@ formal_complete : (f : Formal) (ts rest : List Token) → IsFormal f ts rest →
 formal_complete f ts rest h = rw (h, kind_word_complete f.kind (t.Name f.name ∷ rest)) refl
 
 more_formals_complete : (fs : List Formal) (ts rest : List Token) → AreMoreFormals fs ts (t.CloseParen ∷ rest) → Runs formals_loop ts (Ok (fs, rest))
-more_formals_complete [] ts rest h = list_stops close_paren_at further_formal_at ts rest (rw h refl)
+more_formals_complete [] ts rest h = runs_stop formals_loop ts rest (rw h refl)
 more_formals_complete (f ∷ fs) ts rest (x, y, e, h, k) =
     list_element close_paren_at further_formal_at ts f y fs rest (rw e refl) (rw (e, formal_complete f x y h) refl) (rw e (omega (arith, formal_shorter f x y h))) (more_formals_complete fs y rest k)
 
@@ -187,7 +184,7 @@ formals_complete (f ∷ fs) ts rest (y, h, k) =
     rw (formal_complete f ts y h, run_is formals_loop y (Ok (fs, rest)) (more_formals_complete fs y rest k)) refl
 
 more_names_complete : (ns : List (List ℕ)) (ts rest : List Token) → AreMoreNames ns ts (t.CloseParen ∷ rest) → Runs given_loop ts (Ok (ns, rest))
-more_names_complete [] ts rest h = list_stops close_paren_at further_name_at ts rest (rw h refl)
+more_names_complete [] ts rest h = runs_stop given_loop ts rest (rw h refl)
 more_names_complete (n ∷ ns) ts rest (x, e, h) =
     list_element close_paren_at further_name_at ts n x ns rest (rw e refl) (rw e refl) (rw e (omega arith)) (more_names_complete ns x rest h)
 
@@ -203,25 +200,11 @@ item_complete (Template c) ts rest (x, y, e, f, h) =
     rw (e, formals_complete c.formals x (t.OpenBrace ∷ y) f, run_is blocks_loop y (Ok (c.blocks, rest)) (blocks_complete c.blocks y rest h)) refl
 item_complete (Started c) ts rest (x, e, h) = rw (e, given_complete c.objects x rest h) refl
 
-item_opens : (i : Item) (ts rest : List Token) → IsItem i ts rest → end_at ts ≡ None
-item_opens (Object x) ts rest (y, e, h) = rw e refl
-item_opens (Client c) ts rest (y, e, h) = rw e refl
-item_opens (Template c) ts rest (x, y, e, f, h) = rw e refl
-item_opens (Started c) ts rest (x, e, h) = rw e refl
-
 items_runs : (is : List Item) (ts : List Token) → AreItems is ts [] → Runs items_loop ts (Ok (is, []))
-items_runs [] ts h = list_stops end_at item_at ts [] (rw h refl)
+items_runs [] ts h = runs_stop items_loop ts [] (rw h refl)
 items_runs (i ∷ is) ts (x, h, k) =
-    list_element end_at item_at ts i x is [] (item_opens i ts x h) (item_complete i ts x h) (omega (arith, item_counted i ts x h)) (items_runs is x k)
+    list_element end_at item_at ts i x is [] (before_end ts (omega (arith, item_counted i ts x h))) (item_complete i ts x h) (omega (arith, item_counted i ts x h)) (items_runs is x k)
 
 -- a script is read
 pub items_complete : (is : List Item) (ts : List Token) → IsScript is ts → run items_loop ts ≡ Ok (is, [])
 items_complete is ts h = run_is items_loop ts (Ok (is, [])) (items_runs is ts h)
-
-abbrev tree_of : Read (List Item) → List Item
-tree_of (Err left) = []
-tree_of (Ok p) = p.0
-
--- a list of tokens has at most one tree
-pub one_tree : (is js : List Item) (ts : List Token) → IsScript is ts → IsScript js ts → is ≡ js
-one_tree is js ts g h = ap tree_of (sym (items_complete is ts g) ∙ items_complete js ts h)

@@ -1,9 +1,9 @@
 -- What a list is read as, by its first tokens: nothing where they end it, and else an element and what the rest is read
 -- as; the number of steps does not matter, where there are enough. What reads lists, and the proof that every script is
 -- read, stand on it.
-use Rattle.std.proofs.Common.{◌≡◌, ℕ, zero, suc, ◌<◌, List, length, refl, ap, arith, Some, None, Ok, Err}
+use Rattle.std.proofs.Common.{◌≡◌, ℕ, zero, suc, ◌<◌, List, [], ◌∷◌, length, refl, ap, arith, Some, None, Ok, Err}
 use Rattle.qs_script.specs.declared.tokens.token.Token.{Token}
-use Rattle.qs_script.specs.grammar.Reading.{Loop, after, many_at, run, Read}
+use Rattle.qs_script.specs.grammar.Reading.{Loop, after, many_at, run, Read, end_at}
 
 -- what a list of tokens is read as, in enough steps
 pub record Runs {M : Type 0} (loop : Loop M) (ts : List Token) (read : Read M) : Type 0 where
@@ -33,3 +33,7 @@ element_at loop (suc n) ts x read lt e s less r = rw (e, s) (ap (after loop x.0)
 
 pub runs_element : {M : Type 0} (loop : Loop M) (ts : List Token) (x : M × List Token) (read : Read M) → loop.stop ts ≡ None → loop.element ts ≡ Ok x → length x.1 < length ts → Runs loop x.1 read → Runs loop ts (after loop x.0 read)
 runs_element loop ts x read e s less r = record { runs = λ n lt. element_at loop n ts x read lt e s less r }
+
+pub before_end : (ts : List Token) → 0 < length ts → end_at ts ≡ None
+before_end [] h = absurd (omega arith)
+before_end (x ∷ ts) h = refl

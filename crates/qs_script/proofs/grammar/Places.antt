@@ -10,16 +10,12 @@ use Rattle.qs_script.specs.grammar.FormPlaces.{BeginsScript, IsFormPlace}
 use Rattle.qs_script.proofs.grammar.Prefixes.{Status, refused, whole, begun, left_of}
 use Rattle.qs_script.proofs.grammar.Readers.{IsEmpty, items_status, items_short}
 use Rattle.qs_script.proofs.grammar.Sound.{items_sound}
-use Rattle.qs_script.proofs.grammar.Readings.{is_no_script, not_both}
-
-same_left : (r : Read (List Item)) (n m : ℕ) → r ≡ Err n → r ≡ Err m → n ≡ m
-same_left (Err k) n m p q = cc
-same_left (Ok x) n m p q = cc
+use Rattle.qs_script.proofs.grammar.Readings.{both_err, is_no_script, not_both}
 
 -- a script begins with the tokens before those that are left
 begins : (us zs : List Token) (left : ℕ) → length zs ≡ left → run items_loop (us ++ zs) ≡ Err left → Status IsEmpty (λ ws. run items_loop (us ++ ws)) → BeginsScript us
 begins us zs left e p (refused y ys h) =
-    absurd (omega (arith, e, same_left (run items_loop (us ++ zs)) left (length (y ∷ ys ++ zs)) p (h zs), length-append ys zs))
+    absurd (omega (arith, e, both_err (run items_loop (us ++ zs)) left (length (y ∷ ys ++ zs)) p (h zs), length-append ys zs))
 begins us zs left e p (whole items ys h) = absurd (not_both (run items_loop (us ++ zs)) (items, ys ++ zs) left (h zs) p)
 begins us zs left e p (begun short rest items h) =
     (rest, items, items_sound (us ++ rest) (items, []) (ap (λ ws. run items_loop (us ++ ws)) (sym (append-nil rest)) ∙ h [] refl))

@@ -123,9 +123,6 @@ module _ {A B : Type 0} (k : Read A → Read B) (m : A → B) (err : (left : ℕ
     status = λ u us. put_status Any (λ ws. p (u ∷ us ++ ws)) (e.status u us);
   }
 
-pub after_careful : {M : Type 0} (loop : Loop M) (m : M) (p : List Token → Read M) → Careful p → Careful (λ ts. after loop m (p ts))
-after_careful loop m = put_careful (after loop m) (loop.join m) (λ left. refl) (λ x. refl)
-
 one_element : {A : Type 0} (p : List Token → Read A) → Element p → Element (λ ts. one (p ts))
 one_element p = put_element one (λ a. a ∷ []) (λ left. refl) (λ x. refl) p
 
@@ -196,18 +193,10 @@ pub record Stop (End : List Token → Type 0) (stop : List Token → Option (Lis
   pub nothing : (rest : List Token) → stop [] ≡ Some rest → rest ≡ []
   pub each : (u : Token) → IsSettled stop u
 
-both_some : {A : Type 0} (o : Option A) (x y : A) → o ≡ Some x → o ≡ Some y → x ≡ y
-both_some (Some z) x y p q = cc
-both_some None x y p q = cc
-
-some_or_none : {A : Type 0} (o : Option A) (x : A) → o ≡ Some x → o ≡ None → ⊥
-some_or_none (Some z) x p q = cc
-some_or_none None x p q = cc
-
 module _ {M : Type 0} (loop : Loop M) (End : List Token → Type 0) (s : Stop End loop.stop) (e : Element loop.element) where
   stop_shorter_at : (u : Token) (ts rest : List Token) → IsSettled loop.stop u → loop.stop (u ∷ ts) ≡ Some rest → length rest ≤ length (u ∷ ts)
-  stop_shorter_at u ts rest (inl h) k = rw (both_some (loop.stop (u ∷ ts)) rest ts k (h ts)) (omega arith)
-  stop_shorter_at u ts rest (inr h) k = absurd (some_or_none (loop.stop (u ∷ ts)) rest k (h ts))
+  stop_shorter_at u ts rest (inl h) k = let e : rest ≡ ts = cc (h ts) in rw e (omega arith)
+  stop_shorter_at u ts rest (inr h) k = let none : ⊥ = cc (h ts) in absurd none
 
   stop_shorter : (ts rest : List Token) → loop.stop ts ≡ Some rest → length rest ≤ length ts
   stop_shorter [] rest k = rw (s.nothing rest k) (omega arith)
@@ -217,13 +206,9 @@ module _ {M : Type 0} (loop : Loop M) (End : List Token → Type 0) (s : Stop En
   step_short ts (Some rest) r k h = stop_shorter ts rest k
   step_short ts None r k h = h
 
-  after_short : (n : ℕ) (m : M) (r : Read M) → left_of r ≤ n → left_of (after loop m r) ≤ n
-  after_short n m (Ok x) h = h
-  after_short n m (Err left) h = h
-
   more_short : (n : ℕ) (r : Read M) (next : List Token → Read M) → left_of r ≤ n → ((us : List Token) → left_of (next us) ≤ length us) → left_of (then_more loop r next) ≤ n
   more_short n (Err left) next h k = h
-  more_short n (Ok x) next h k = after_short n x.0 (next x.1) (omega (arith, h, k x.1))
+  more_short n (Ok x) next h k = put_short (after loop x.0) (loop.join x.0) (λ left. refl) (λ x. refl) n (next x.1) (omega (arith, h, k x.1))
 
   many_short : (n : ℕ) (ts : List Token) → left_of (many_at loop n ts) ≤ length ts
   many_short zero ts = omega arith
@@ -306,4 +291,4 @@ list_careful stop p s e = run_careful (list_loop stop p) s (one_element p e)
 
 -- elements after a first one
 pub after_first : {A : Type 0} (stop : List Token → Option (List Token)) (p : List Token → Read A) → Stop Any stop → Element p → (a : A) → Careful (λ ts. after (list_loop stop p) (a ∷ []) (run (list_loop stop p) ts))
-after_first stop p s e a = after_careful (list_loop stop p) (a ∷ []) (run (list_loop stop p)) (list_careful stop p s e)
+after_first stop p s e a = put_careful (after (list_loop stop p) (a ∷ [])) (λ xs. a ∷ xs) (λ left. refl) (λ x. refl) (run (list_loop stop p)) (list_careful stop p s e)

@@ -272,15 +272,9 @@ module _ (n : ℕ) (inner : List Token → Read Stmts) (inner_sound : (ts : List
   stmt_sound (t.Name m ∷ ts) x p = named_sound n m ts x p
   stmt_sound _ x p = cc
 
-body_ends : (levels : ℕ) (ts rest : List Token) → close_brace_at ts ≡ Some rest → AreStmts levels end ts (t.CloseBrace ∷ rest)
-body_ends levels ts rest e = close_brace_sound ts rest e
-
-no_statement : (ts : List Token) (x : Stmts × List Token) (m : Stmts) (rest : List Token) → Err (length ts) ≡ Ok x → AreStmts zero m x.1 (t.CloseBrace ∷ rest) → AreStmts zero (join_statements x.0 m) ts (t.CloseBrace ∷ rest)
-no_statement ts x m rest p h = cc
-
 body_sound : (levels : ℕ) (ts : List Token) (x : Stmts × List Token) → run (body_loop levels) ts ≡ Ok x → AreStmts levels x.0 ts (t.CloseBrace ∷ x.1)
-body_sound zero = run_sound (body_loop zero) (λ s ts rest. AreStmts zero s ts (t.CloseBrace ∷ rest)) (body_ends zero) no_statement
-body_sound (suc n) = run_sound (body_loop (suc n)) (λ s ts rest. AreStmts (suc n) s ts (t.CloseBrace ∷ rest)) (body_ends (suc n))
+body_sound zero = run_sound (body_loop zero) (λ s ts rest. AreStmts zero s ts (t.CloseBrace ∷ rest)) close_brace_sound (λ ts x m rest p h. cc)
+body_sound (suc n) = run_sound (body_loop (suc n)) (λ s ts rest. AreStmts (suc n) s ts (t.CloseBrace ∷ rest)) close_brace_sound
     (λ ts x m rest p h. stmt_sound n (run (body_loop n)) (body_sound n) ts x p m (t.CloseBrace ∷ rest) h)
 
 -- blocks and items
@@ -304,15 +298,10 @@ blocks_sound : (ts : List Token) (x : List Block × List Token) → run blocks_l
 blocks_sound = list_sound close_brace_at separate_at (λ xs ts rest. AreBlocks xs ts (t.CloseBrace ∷ rest)) close_brace_sound
     (λ ts x xs rest p h. (x.1, separate_sound ts x p, h))
 
-account_sound : (ts : List Token) (x : KindText × List Token) → (number_at ts >>= λ n. Ok (Account n.0, n.1)) ≡ Ok x → IsKind x.0 (t.Account ∷ ts) x.1
-account_sound ts x p =
-    let (n, q, v) = bind_last (number_at ts) (λ n. (Account n.0, n.1)) x p in
-    subst (λ z. IsKind z.0 (t.Account ∷ ts) z.1) v (ap (λ us. t.Account ∷ us) (number_sound ts n q))
-
-buffer_sound : (ts : List Token) (x : KindText × List Token) → (number_at ts >>= λ n. Ok (Buffer n.0, n.1)) ≡ Ok x → IsKind x.0 (t.Buffer ∷ ts) x.1
-buffer_sound ts x p =
-    let (n, q, v) = bind_last (number_at ts) (λ n. (Buffer n.0, n.1)) x p in
-    subst (λ z. IsKind z.0 (t.Buffer ∷ ts) z.1) v (ap (λ us. t.Buffer ∷ us) (number_sound ts n q))
+one_number_sound : (u : Token) (k : ℕ → KindText) (is : (n : ℕ) (ts rest : List Token) → ts ≡ u ∷ t.Number n ∷ rest → IsKind (k n) ts rest) (ts : List Token) (x : KindText × List Token) → (number_at ts >>= λ n. Ok (k n.0, n.1)) ≡ Ok x → IsKind x.0 (u ∷ ts) x.1
+one_number_sound u k is ts x p =
+    let (n, q, v) = bind_last (number_at ts) (λ n. (k n.0, n.1)) x p in
+    subst (λ z. IsKind z.0 (u ∷ ts) z.1) v (is n.0 (u ∷ ts) n.1 (ap (λ us. u ∷ us) (number_sound ts n q)))
 
 grid_sound : (ts : List Token) (x : KindText × List Token) → (number_at ts >>= λ n. number_at n.1 >>= λ m. Ok (Grid n.0 m.0, m.1)) ≡ Ok x → IsKind x.0 (t.Grid ∷ ts) x.1
 grid_sound ts x p =
@@ -322,8 +311,8 @@ grid_sound ts x p =
     subst (λ z. IsKind z.0 (t.Grid ∷ ts) z.1) v (ap (λ us. t.Grid ∷ us) ts_is)
 
 kind_sound : (ts : List Token) (x : KindText × List Token) → kind_at ts ≡ Ok x → IsKind x.0 ts x.1
-kind_sound (t.Account ∷ ts) x p = account_sound ts x p
-kind_sound (t.Buffer ∷ ts) x p = buffer_sound ts x p
+kind_sound (t.Account ∷ ts) x p = one_number_sound t.Account Account (λ n ts rest e. e) ts x p
+kind_sound (t.Buffer ∷ ts) x p = one_number_sound t.Buffer Buffer (λ n ts rest e. e) ts x p
 kind_sound (t.Grid ∷ ts) x p = grid_sound ts x p
 kind_sound _ x p = cc
 

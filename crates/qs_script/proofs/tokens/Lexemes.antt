@@ -1,7 +1,7 @@
 -- The first token of a text is what stands at its front, a name, digits, a comment or a sign, and the other tokens are
 -- those of the rest of the text. The functions that cut off one token, such as `front_word` and `front_number`, stand
 -- on it. The definition goes byte by byte, so the proof goes by induction on the bytes that belong to the token.
-use Rattle.std.proofs.Common.{◌≡◌, ◌≢◌, ℕ, ◌+◌, ◌<◌, get_or, ◌||◌, nat_eq, not, ◌≤◌, min, zero, suc, Bool, true, false, if◌then◌else◌, List, [], ◌∷◌, ◌++◌, length, take, drop, refl, ap, sym, ◌∙◌, append_assoc, append-nil, one-add, All, IsTrue, Option, Some, None, Result, Ok, Err, arith, length-take-le, ltb}
+use Rattle.std.proofs.Common.{◌≡◌, ◌≢◌, ℕ, ◌+◌, ◌<◌, get_or, nat_eq, not, ◌≤◌, min, zero, suc, Bool, true, false, if◌then◌else◌, List, [], ◌∷◌, ◌++◌, length, take, drop, refl, ap, sym, ◌∙◌, append_assoc, append-nil, one-add, All, IsTrue, Option, Some, None, Result, Ok, Err, arith, length-take-le, ltb}
 use Rattle.std.proofs.lemmas.List.Elements.{All-cons, All-nil}
 use Rattle.qs_script.specs.Types.{Token, TokenFault}
 use Rattle.qs_script.specs.declared.tokens.lex.TokenFault.TheVariants.{Number, Name}
@@ -53,22 +53,16 @@ module _ (test : ℕ → Bool) (run : List ℕ → Pending)
   run_goes w [] = then_nil (over (run w)) ∙ ap (λ x. then_tokens (over (run x)) []) (sym (append-nil w))
   run_goes w (b ∷ bs) = ap (λ s. going_on s (λ q. tokens_from q bs)) (steps w b) ∙ run_step (test b) w b bs (run_goes (w ++ b ∷ []) bs)
 
-  first_step : (passes : Bool) (b : ℕ) (bs : List ℕ) → passes ≡ true → then_tokens (over (run ((b ∷ []) ++ take (run_of test bs) bs))) (drop (run_of test bs) bs) ≡ then_tokens (over (run (take (if passes then 1 + run_of test bs else 0) (b ∷ bs)))) (drop (if passes then 1 + run_of test bs else 0) (b ∷ bs))
-  first_step passes b bs e = rw (e, one-add) refl
-
   -- the run at the front of a text whose first byte begins one
   front_run : (b : ℕ) (bs : List ℕ) → first_byte b ≡ Ok ([], run (b ∷ [])) → test b ≡ true → tokens_of (b ∷ bs) ≡ then_tokens (over (run (take (run_of test (b ∷ bs)) (b ∷ bs)))) (drop (run_of test (b ∷ bs)) (b ∷ bs))
   front_run b bs e passes =
-      ap (λ s. going_on s (λ q. tokens_from q bs)) e ∙ after-nil (tokens_from (run (b ∷ [])) bs) ∙ run_goes (b ∷ []) bs ∙ first_step (test b) b bs passes
-
-or_left : (t u v : Bool) → t ≡ true → (t || u || v) ≡ true
-or_left t u v e = rw e refl
+      ap (λ s. going_on s (λ q. tokens_from q bs)) e ∙ after-nil (tokens_from (run (b ∷ [])) bs) ∙ run_goes (b ∷ []) bs ∙ rw (passes, one-add) refl
 
 -- the name or reserved word at the front
 pub front_name : (text name rest : List ℕ) (n : ℕ) → 0 < length text → is_letter (get_or text 0 0) ≡ true → n ≡ run_of is_name_byte text → name ≡ take n text → rest ≡ drop n text → tokens_of text ≡ then_tokens (over (word name)) rest
 front_name [] name rest n some e en ename erest = absurd (omega arith)
 front_name (b ∷ bs) name rest n some e en ename erest =
-    front_run is_name_byte word (λ w c. refl) b bs (rw e refl) (or_left (is_letter b) (is_digit b) (nat_eq b 95) e)
+    front_run is_name_byte word (λ w c. refl) b bs (rw e refl) (rw e refl)
     ∙ rw (ename, erest, en) refl
 
 -- the digits at the front
@@ -135,10 +129,6 @@ without_equals alone both (b ∷ bs) h =
     let e : nat_eq b 61 ≡ false = grind arith in
     rw e (then_ends (over (sign alone both)) b bs) ∙ ends_sign alone both b bs
 
--- the digits at the front are digits
-pub front_passes : (text ds : List ℕ) (n : ℕ) → n ≡ run_of is_digit text → ds ≡ take n text → All (λ b. IsTrue (is_digit b)) ds
-front_passes text ds n en eds = rw (eds, en) (run_passes is_digit text)
-
 -- the sign without = after it, or a byte that is no sign
 sign_on_its_own : (b : ℕ) (rest : List ℕ) (p : Option (Option Token × Token)) → (0 < length rest → get_or rest 0 0 ≡ 61 → with_equals_of p ≡ None)
     → going_on (any_sign b p) (λ q. tokens_from q rest) ≡ going_on (single_sign (alone b p)) (λ q. tokens_from q rest)
@@ -186,29 +176,19 @@ pub run_take : (test : ℕ → Bool) (n : ℕ) (bs : List ℕ) → run_of test (
 run_take test (suc n) (b ∷ bs) = run_take_step test n b bs (test b) (run_take test n bs)
 run_take test _ _ = omega arith
 
-run_within_step : (passes : Bool) (n m : ℕ) → n ≤ m → (if passes then 1 + n else 0) ≤ suc m
-run_within_step true n m h = omega arith
-run_within_step false n m h = omega arith
-
 run_within : (test : ℕ → Bool) (bs : List ℕ) → run_of test bs ≤ length bs
 run_within test [] = omega arith
-run_within test (b ∷ bs) = run_within_step (test b) (run_of test bs) (length bs) (run_within test bs)
+run_within test (b ∷ bs) = grind (arith, run_within test bs)
 
 -- a name of which seventeen bytes were looked at
-long_run : (n r : ℕ) → n ≡ min 17 r → 16 < n → 16 < r
-long_run n r e long = omega arith
-
 pub cut_word : (text : List ℕ) (n : ℕ) → 0 < length text → is_letter (get_or text 0 0) ≡ true → n ≡ min 17 (run_of is_name_byte text) → 16 < n → tokens_of text ≡ Err Name
 cut_word text n some letter e long =
-    long_word text (run_of is_name_byte text) some letter refl (run_within is_name_byte text) (long_run n (run_of is_name_byte text) e long)
-
-pub short_run : (n r : ℕ) → n ≡ min 17 r → n ≤ 16 → n ≡ r
-short_run n r e short = omega arith
+    long_word text (run_of is_name_byte text) some letter refl (run_within is_name_byte text) (omega (arith, e, long))
 
 -- a name has a byte at least, so what is said of words with its first byte is said of it
 word_some : (b : ℕ) (bs : List ℕ) (end : ℕ) → is_letter b ≡ true → end ≡ min 17 (run_of is_name_byte (b ∷ bs)) → 0 < end
 word_some b bs end letter is =
-    let one : run_of is_name_byte (b ∷ bs) ≡ 1 + run_of is_name_byte bs = rw (or_left (is_letter b) (is_digit b) (nat_eq b 95) letter) refl in
+    let one : run_of is_name_byte (b ∷ bs) ≡ 1 + run_of is_name_byte bs = rw letter refl in
     omega (arith, one, is)
 
 pub word_begins : (text : List ℕ) (end : ℕ) → 0 < length text → is_letter (get_or text 0 0) ≡ true → end ≡ min 17 (run_of is_name_byte text)

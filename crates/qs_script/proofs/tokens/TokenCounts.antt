@@ -1,7 +1,7 @@
 -- A text has at least a byte for each of its tokens. The law of `qs_script` that bounds the statements of a script
 -- stands on it. It goes by induction on the bytes, each of which adds at most one token, where a token that has begun
 -- and is not over is counted already.
-use Rattle.std.proofs.Common.{◌≡◌, ℕ, ◌≤◌, ◌+◌, Bool, true, false, if◌then◌else◌, List, [], ◌∷◌, ◌++◌, length, ap, arith, Option, Some, None, Result, Ok, Err, length-append, nat_eq, nat_lt}
+use Rattle.std.proofs.Common.{◌≡◌, ℕ, ◌≤◌, ◌+◌, Bool, true, false, if◌then◌else◌, List, [], ◌∷◌, ◌++◌, length, arith, Option, Some, None, Result, Ok, Err, length-append, nat_eq, nat_lt}
 use Rattle.qs_script.specs.Types.{Token, TokenFault}
 use Rattle.qs_script.specs.declared.tokens.lex.TokenFault.TheVariants.{Number, Name}
 use Rattle.qs_script.specs.declared.tokens.token.Token.TheVariants as t
@@ -95,10 +95,6 @@ few_from (b ∷ bs) p =
     few_same (weight p + 1 + length bs) (weight p + length (b ∷ bs)) (tokens_from p (b ∷ bs)) (omega arith)
     (few_next (weight p + 1) (length bs) (byte_step p b) bs (few_step p b) (few_from bs))
 
-tokens_few : (text : List ℕ) (r : Result (List Token) TokenFault) (ts : List Token) → Few (length text) r → r ≡ Ok ts → length ts ≤ length text
-tokens_few text (Ok us) ts h e = let same : us ≡ ts = cc in omega (arith, ap length same)
-tokens_few text (Err x) ts h e = cc
-
 pub tokens_within : (text : List ℕ) (ts : List Token) → tokens_of text ≡ Ok ts → length ts ≤ length text
 tokens_within text ts cut =
-    tokens_few text (tokens_of text) ts (few_same (0 + length text) (length text) (tokens_of text) (omega arith) (few_from text nothing)) cut
+    let few : Few (0 + length text) (tokens_of text) = few_from text nothing in omega (arith, rw cut at few)

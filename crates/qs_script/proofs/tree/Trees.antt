@@ -2,20 +2,15 @@
 -- a list is joined to its end. The loops of the reader stand on the first two, and the proof of `push` on the third.
 -- Each goes by induction on the list.
 use Rattle.std.proofs.Common.{◌≡◌, List, [], ◌∷◌, ◌++◌, refl, ap}
-use Rattle.qs_script.specs.Types.{Stmt, Command, Query, Assign, If, IfElse, Repeat, Leave}
+use Rattle.qs_script.specs.Types.{Stmt, Command}
 use Rattle.qs_script.specs.audit.tree.Tree.{Stmts, end, command, query, assign, choose, choose_else, again, leave}
 use Rattle.qs_script.specs.tree.Tree.{join_statements}
 use Rattle.qs_script.specs.tree.Views.{stmts_of, single}
 
-pub stmts_of-append : (xs : List Stmt) (s : Stmt) → stmts_of (xs ++ s ∷ []) ≡ join_statements (stmts_of xs) (single s)
-stmts_of-append [] s = refl
-stmts_of-append (Command c ∷ xs) s = ap (command c) (stmts_of-append xs s)
-stmts_of-append (Query v c ∷ xs) s = ap (query v c) (stmts_of-append xs s)
-stmts_of-append (Assign v e ∷ xs) s = ap (assign v e) (stmts_of-append xs s)
-stmts_of-append (If t first ∷ xs) s = ap (choose t first) (stmts_of-append xs s)
-stmts_of-append (IfElse t first other ∷ xs) s = ap (choose_else t first other) (stmts_of-append xs s)
-stmts_of-append (Repeat n body ∷ xs) s = ap (again n body) (stmts_of-append xs s)
-stmts_of-append (Leave ∷ xs) s = ap leave (stmts_of-append xs s)
+pub stmts_appended : (xs : List Stmt) (s : Stmt) → stmts_of (xs ++ s ∷ []) ≡ join_statements (stmts_of xs) (single s)
+stmts_appended [] s = refl
+stmts_appended (Command c ∷ xs) s = cc (stmts_appended xs s)
+stmts_appended (_ ∷ xs) s = cc (stmts_appended xs s)
 
 pub joined_assoc : (xs ys zs : Stmts) → join_statements (join_statements xs ys) zs ≡ join_statements xs (join_statements ys zs)
 joined_assoc end ys zs = refl

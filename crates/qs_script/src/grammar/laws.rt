@@ -7,6 +7,7 @@ ghost use Rattle.qs_script.specs.audit.grammar.Grammar.{IsScript};
 ghost use Rattle.qs_script.specs.grammar.FormPlaces.{IsFormPlace};
 
 /// A list of tokens has at most one tree.
+#[tactic(auto, using(crate::proofs::grammar::Readings::one_tree))]
 pub fn one_tree()
     ensures { (s u : List Item) (ts : List Token) → IsScript s ts → IsScript u ts → s ≡ u }
 {}

@@ -234,6 +234,7 @@ pub(crate) fn sign_alone(b: u8) -> Option<Token>
 
 // The number that the digits at the front write, and where they end. Nineteen digits fit.
 #[inline(always)]
+#[tactic(auto, using(crate::proofs::tokens::Powers::ten_mono))]
 pub(crate) fn leading_number(text: &[u8]) -> (u64, usize)
     requires short { length text.now ≤ most_digits + 1 }
     ensures end { result.1 ≡ run_of digit text.now }
@@ -253,6 +254,7 @@ pub(crate) fn leading_number(text: &[u8]) -> (u64, usize)
 
 // The number that at most eighteen digits write.
 #[inline(always)]
+#[tactic(auto, using(crate::proofs::tokens::Powers::ten_mono))]
 pub(crate) fn number_of(digits: &[u8]) -> u64
     requires short { length digits.now ≤ most_digits }
     requires digits { All (λ b. IsTrue (digit b)) digits.now }

@@ -1,10 +1,9 @@
 //! All tokens of a text.
 
-ghost use Rattle.std.specs.Prelude.{◌≡◌, ◌<◌, ◌≤◌, ◌≢◌, ◌+◌, [], ◌∷◌, ◌++◌, length, drop, min, slice_index, vec_len, vec_capacity, IsTrue, false, Some, None, Ok, IfOk, IfErr};
+ghost use Rattle.std.specs.Prelude.{◌≡◌, ◌<◌, ◌≤◌, ◌≢◌, ◌+◌, [], ◌∷◌, ◌++◌, length, drop, min, slice_index, vec_len, vec_capacity, IsTrue, false, Some, Ok, IfOk, IfErr};
 ghost use Rattle.qs_script.specs.audit.tokens.Limits.{longest_name, most_digits};
-ghost use Rattle.qs_script.specs.audit.tokens.Tokens.{tokens_of, first_byte, nothing, sign, is_space as space, is_letter as letter, is_digit as digit, is_name_byte};
+ghost use Rattle.qs_script.specs.audit.tokens.Tokens.{tokens_of, first_byte, sign, is_space as space, is_letter as letter, is_digit as digit, is_name_byte};
 ghost use Rattle.qs_script.specs.tokens.Cutting.{Adds, AddsMost, AddsAll, IsFirstFault, IsOnlyWith, BeginsNone, run_of};
-ghost use Rattle.qs_script.specs.declared.tokens.token.Token.TheVariants.{Unequal as unequal};
 
 use crate::tokens::lex::{Piece, Run, TokenFault, front, is, leading_number, run_end};
 use crate::tokens::limits::{LONGEST_NAME, MOST_DIGITS};
@@ -66,36 +65,6 @@ fn with_space(text: &[u8], end: usize) -> usize
     if text[end] == b' ' { end + 1 } else { end }
 }
 
-// Adds a sign that no = may follow, and gives its length.
-#[inline(always)]
-fn put_plain(tokens: &mut Vec<Token>, token: Token, text: &[u8]) -> Result<usize, TokenFault>
-    requires plain { first_byte (slice_index text.now 0) ≡ Ok (token ∷ [], nothing) }
-    requires room { vec_len tokens.old < vec_capacity tokens.old }
-    requires long { most_digits < length text.now }
-    ensures exact { Adds tokens.old.items tokens.new.items result text.now }
-    ensures some { IfOk result (λ n. 0 < n) }
-    ensures within { IfOk result (λ n. n ≤ length text.now) }
-    ensures most { vec_len tokens.new ≤ vec_len tokens.old + 1 }
-    ensures capacity { vec_capacity tokens.new ≡ vec_capacity tokens.old }
-{
-    put(tokens, token, 1)
-}
-
-// Puts a token of one byte after which a space often comes, and passes that, too.
-#[inline(always)]
-fn put_spaced(tokens: &mut Vec<Token>, token: Token, text: &[u8]) -> Result<usize, TokenFault>
-    requires plain { first_byte (slice_index text.now 0) ≡ Ok (token ∷ [], nothing) }
-    requires room { vec_len tokens.old < vec_capacity tokens.old }
-    requires long { most_digits < length text.now }
-    ensures exact { Adds tokens.old.items tokens.new.items result text.now }
-    ensures some { IfOk result (λ n. 0 < n) }
-    ensures within { IfOk result (λ n. n ≤ length text.now) }
-    ensures most { vec_len tokens.new ≤ vec_len tokens.old + 1 }
-    ensures capacity { vec_capacity tokens.new ≡ vec_capacity tokens.old }
-{
-    put(tokens, token, with_space(text, 1))
-}
-
 // Adds the first sign where an = follows, which belongs to it, and else the second.
 #[inline(always)]
 fn put_compared(
@@ -117,25 +86,6 @@ fn put_compared(
         put(tokens, with_equals, with_space(text, 2))
     } else {
         put(tokens, alone, with_space(text, 1))
-    }
-}
-
-// Adds a !=, where the = follows.
-#[inline(always)]
-fn put_unequal(tokens: &mut Vec<Token>, text: &[u8]) -> Result<usize, TokenFault>
-    requires begins { first_byte (slice_index text.now 0) ≡ Ok ([], sign None unequal) }
-    requires room { vec_len tokens.old < vec_capacity tokens.old }
-    requires long { most_digits < length text.now }
-    ensures exact { Adds tokens.old.items tokens.new.items result text.now }
-    ensures some { IfOk result (λ n. 0 < n) }
-    ensures within { IfOk result (λ n. n ≤ length text.now) }
-    ensures most { vec_len tokens.new ≤ vec_len tokens.old + 1 }
-    ensures capacity { vec_capacity tokens.new ≡ vec_capacity tokens.old }
-{
-    if text[1] == b'=' {
-        put(tokens, Token::Unequal, 2)
-    } else {
-        Err(TokenFault::Byte)
     }
 }
 
@@ -174,7 +124,7 @@ fn add_front(tokens: &mut Vec<Token>, text: &[u8]) -> Result<usize, TokenFault>
     }
 }
 
-// Adds the sign at the front, and gives its length.
+// Adds the sign at the front, and gives its length, with a space after it where one often comes.
 #[inline(always)]
 fn add_sign(tokens: &mut Vec<Token>, text: &[u8]) -> Result<usize, TokenFault>
     requires not_letter { letter (slice_index text.now 0) ≡ false }
@@ -190,20 +140,20 @@ fn add_sign(tokens: &mut Vec<Token>, text: &[u8]) -> Result<usize, TokenFault>
     ensures capacity { vec_capacity tokens.new ≡ vec_capacity tokens.old }
 {
     match text[0] {
-        b'{' => put_spaced(tokens, Token::OpenBrace, text),
-        b'}' => put_plain(tokens, Token::CloseBrace, text),
-        b'(' => put_plain(tokens, Token::OpenParen, text),
-        b')' => put_plain(tokens, Token::CloseParen, text),
-        b',' => put_spaced(tokens, Token::Comma, text),
-        b'.' => put_plain(tokens, Token::Dot, text),
-        b';' => put_spaced(tokens, Token::Semicolon, text),
-        b'+' => put_spaced(tokens, Token::Plus, text),
-        b'-' => put_spaced(tokens, Token::Minus, text),
-        b'*' => put_spaced(tokens, Token::Times, text),
+        b'{' => put(tokens, Token::OpenBrace, with_space(text, 1)),
+        b'}' => put(tokens, Token::CloseBrace, 1),
+        b'(' => put(tokens, Token::OpenParen, 1),
+        b')' => put(tokens, Token::CloseParen, 1),
+        b',' => put(tokens, Token::Comma, with_space(text, 1)),
+        b'.' => put(tokens, Token::Dot, 1),
+        b';' => put(tokens, Token::Semicolon, with_space(text, 1)),
+        b'+' => put(tokens, Token::Plus, with_space(text, 1)),
+        b'-' => put(tokens, Token::Minus, with_space(text, 1)),
+        b'*' => put(tokens, Token::Times, with_space(text, 1)),
         b'=' => put_compared(tokens, Token::Equal, Token::Assign, text),
         b'<' => put_compared(tokens, Token::AtMost, Token::Less, text),
         b'>' => put_compared(tokens, Token::AtLeast, Token::Greater, text),
-        b'!' => put_unequal(tokens, text),
+        b'!' if text[1] == b'=' => put(tokens, Token::Unequal, 2),
         _ => Err(TokenFault::Byte),
     }
 }

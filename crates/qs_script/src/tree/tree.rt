@@ -179,6 +179,7 @@ impl Model for Body {
     ghost size_decreases = { λ b h. inner_smaller b.stmts.items };
 }
 
+#[tactic(auto, using(crate::proofs::tree::Trees::stmts_appended))]
 impl Body {
     /// No statements. It takes memory for so many at once.
     #[inline(always)]

@@ -7,7 +7,6 @@ use Rattle.qs_check.specs.audit.fault_places.Places.{scope_or_fault, start, scri
 use Rattle.qs_check.specs.audit.resolution.Resolve.{clients_of, names_of, templates_in}
 use Rattle.qs_check.specs.resolution.Resolve.{variable_lists}
 use Rattle.qs_check.specs.audit.Checked.{first_fault}
-use Rattle.qs_check.proofs.Scripts.{texts_faultless}
 use Rattle.qs_check.proofs.Soundness.{walked}
 use Rattle.qs_check.proofs.checker.resolve_from.Goals as goal
 
@@ -19,7 +18,7 @@ numbered-requires-clause-objects c =
 pub numbered-requires-clause-texts : goal.numbered-requires-clause-texts
 numbered-requires-clause-texts c =
     let w = walked c.args.items.now c.check_items.new.scope (rw c.requires.start at c.in_ok-check_items.ensures.meets) in
-    texts_faultless c.args.items.now start w.last w.met_all
+    w.faultless
 
 pub numbered-requires-clause-variables : goal.numbered-requires-clause-variables
 numbered-requires-clause-variables c =

@@ -2,13 +2,14 @@ use Rattle.std.proofs.Common.{◌≡◌, ◌<◌, length, arith, [], Ok}
 use Rattle.std.proofs.lemmas.Result.{err_from_is_err_and}
 use Rattle.qs_script.specs.grammar.Reading.{run, end_at, item_at, items_loop}
 use Rattle.qs_script.proofs.grammar.Form.{formed}
+use Rattle.qs_script.proofs.grammar.Loops.{before_end}
 use Rattle.qs_script.proofs.grammar.Readings.{is_script}
-use Rattle.qs_script.proofs.Loops.{list_begins, list_goes_on, whole_list_closes, whole_list_fails, at_end, before_end}
+use Rattle.qs_script.proofs.Loops.{begins, list_goes_on, list_lawful, one_fails, whole_closes, whole_fails, at_end}
 use Rattle.qs_script.proofs.items.script.Goals as goal
 
 pub each-init : goal.each-init
 each-init c = record {
-  whole = rw c.new-items.ensures.items (list_begins end_at item_at [] c.args.tokens.now);
+  whole = rw c.new-items.ensures.items (begins items_loop [] c.args.tokens.now);
   shorter = omega arith;
 }
 
@@ -18,7 +19,7 @@ returns-in_err-item c =
     let some : 0 < length c.each.rest.now = grind arith in
     record {
       exact = rw (p.1, p.2)
-          (whole_list_fails end_at item_at c.in_err-item.field-0.0 c.args.tokens.now c.each.rest.now c.each.items.items c.each.invariant.whole (before_end c.each.rest.now some) c.in_err-item.ensures.exact);
+          (whole_fails items_loop (list_lawful end_at item_at) c.in_err-item.field-0.0 c.args.tokens.now c.each.rest.now c.each.items.items c.each.invariant.whole (before_end c.each.rest.now some) (one_fails end_at item_at c.in_err-item.field-0.0 (item_at c.each.rest.now) c.in_err-item.ensures.exact));
     }
 
 pub each-preserved : goal.each-preserved
@@ -36,7 +37,7 @@ of-requires c =
     let none : length c.each.rest.now ≡ 0 = grind arith in
     let ts = c.args.tokens.now in
     let all : run items_loop ts ≡ Ok (c.each.items.items, []) =
-    whole_list_closes end_at item_at ts c.each.rest.now [] c.each.items.items c.each.invariant.whole (at_end c.each.rest.now none) in
+    whole_closes items_loop (list_lawful end_at item_at) ts c.each.rest.now [] c.each.items.items c.each.invariant.whole (at_end c.each.rest.now none) in
     record { form = formed c.each.items.items ts [] (is_script ts c.each.items.items all) }
 
 pub returns : goal.returns
@@ -44,5 +45,5 @@ returns c =
     let none : length c.each.rest.now ≡ 0 = grind arith in
     record {
       exact = rw c.of.ensures.same
-          (whole_list_closes end_at item_at c.args.tokens.now c.each.rest.now [] c.each.items.items c.each.invariant.whole (at_end c.each.rest.now none));
+          (whole_closes items_loop (list_lawful end_at item_at) c.args.tokens.now c.each.rest.now [] c.each.items.items c.each.invariant.whole (at_end c.each.rest.now none));
     }

@@ -1,7 +1,8 @@
 use Rattle.std.proofs.Common.{◌<◌, ◌++◌, length, drop, arith, length-append, length-drop, Ok, Err}
 use Rattle.qs_diagnosis.specs.Spots.{line_end_at}
 use Rattle.qs_script.specs.audit.tokens.Tokens.{tokens_of}
-use Rattle.qs_script.proofs.PassedLines.{fault_line, fault_there, line_cut, next_first, next_front, not_both, token_line, tokens_there}
+use Rattle.qs_script.proofs.PassedLines.{fault_line, fault_there, line_cut, next_first, next_front, token_line, tokens_there}
+use Rattle.qs_script.proofs.grammar.Readings.{not_both}
 use Rattle.qs_script.proofs.lines.line_of.Goals as goal
 
 pub returns-in_default-clause-fault : goal.returns-in_default-clause-fault

@@ -1,14 +1,15 @@
 use Rattle.std.proofs.Common.{arith}
 use Rattle.std.proofs.lemmas.Result.{err_from_is_err_and}
-use Rattle.qs_script.proofs.Loops.{list_begins, list_goes_on, list_closes, list_fails}
+use Rattle.qs_script.specs.grammar.Reading.{list_loop}
+use Rattle.qs_script.proofs.Loops.{begins, list_goes_on, list_lawful, closes, list_fails}
 use Rattle.qs_script.proofs.lists.list.Goals as goal
 
 pub each-init : goal.each-init
-each-init g c = record { whole = list_begins g.L.Listing.stop_at g.L.Listing.element_at c.args.before.items c.args.tokens.now; shorter = omega arith }
+each-init g c = record { whole = begins (list_loop g.L.Listing.stop_at g.L.Listing.element_at) c.args.before.items c.args.tokens.now; shorter = omega arith }
 
 pub returns-in-Some-clause-exact : goal.returns-in-Some-clause-exact
 returns-in-Some-clause-exact g c =
-    list_closes g.L.Listing.stop_at g.L.Listing.element_at c.args.before.items c.args.tokens.now c.each.rest.now c.in-Some.after.now c.each.list.items c.each.invariant.whole c.in-Some.ensures.exact
+    closes (list_loop g.L.Listing.stop_at g.L.Listing.element_at) (list_lawful g.L.Listing.stop_at g.L.Listing.element_at) c.args.before.items c.args.tokens.now c.each.rest.now c.in-Some.after.now c.each.list.items c.each.invariant.whole c.in-Some.ensures.exact
 
 pub returns-in_err-element-clause-exact : goal.returns-in_err-element-clause-exact
 returns-in_err-element-clause-exact g c =

@@ -7,7 +7,7 @@ use Rattle.qs_script.proofs.statements.+body.Goals as goal
 
 pub body-each-init : goal.body-each-init
 body-each-init t c = record {
-  whole = rw c.in_ok-stmts.ensures.empty (begins (body_loop c.args.levels) (body_lawful c.args.levels) end c.args.tokens.now);
+  whole = rw c.in_ok-stmts.ensures.empty (begins (body_loop c.args.levels) end c.args.tokens.now);
   shorter = omega arith;
 }
 

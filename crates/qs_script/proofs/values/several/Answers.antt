@@ -1,18 +1,18 @@
 use Rattle.std.proofs.Common.{arith, [], ◌∷◌}
 use Rattle.std.proofs.lemmas.Result.{err_from_is_err_and}
-use Rattle.qs_script.specs.grammar.Reading.{close_paren_at, further_at}
-use Rattle.qs_script.proofs.Loops.{list_begins, list_goes_on, list_closes, list_fails}
+use Rattle.qs_script.specs.grammar.Reading.{close_paren_at, further_at, more_loop}
+use Rattle.qs_script.proofs.Loops.{begins, list_goes_on, closes, list_lawful, list_fails}
 use Rattle.qs_script.proofs.values.several.Goals as goal
 
 pub each-init : goal.each-init
 each-init c = record {
-  whole = rw c.one-args.ensures (list_begins close_paren_at further_at (c.args.first ∷ []) c.args.tokens.now);
+  whole = rw c.one-args.ensures (begins more_loop (c.args.first ∷ []) c.args.tokens.now);
   shorter = omega arith;
 }
 
 pub returns-in-Some-clause-exact : goal.returns-in-Some-clause-exact
 returns-in-Some-clause-exact c =
-    (list_closes close_paren_at further_at (c.args.first ∷ []) c.args.tokens.now c.each.rest.now c.in-Some.after.now c.each.args c.each.invariant.whole c.in-Some.ensures.exact)
+    (closes more_loop (list_lawful close_paren_at further_at) (c.args.first ∷ []) c.args.tokens.now c.each.rest.now c.in-Some.after.now c.each.args c.each.invariant.whole c.in-Some.ensures.exact)
 
 pub returns-in_err-atom-clause-exact : goal.returns-in_err-atom-clause-exact
 returns-in_err-atom-clause-exact c =

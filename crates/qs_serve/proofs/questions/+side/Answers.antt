@@ -2,7 +2,8 @@ use Rattle.std.proofs.Common.{◌≡◌, ◌++◌, ◌/◌, length, subst}
 use Rattle.std.proofs.lemmas.List.{take-append-drop}
 use denote.Param.Send.{sendable}
 use Rattle.std.proofs.Crossing.{crosses}
-use Rattle.qs_serve.proofs.Crossing.{asked_send, program_sync}
+use Rattle.qs_levels.proofs.Crossing.{program_sync}
+use Rattle.qs_serve.proofs.Crossing.{asked_send}
 use Rattle.qs_serve.specs.Due.{AreAnswersDue}
 use Rattle.qs_serve.proofs.questions.+side.Goals as goal
 

@@ -1,5 +1,6 @@
 use Rattle.std.proofs.Common.{◌∙◌, arith}
-use Rattle.qs_script.proofs.tokens.Lexemes.{front_digits, front_passes, digits_too_long, digits_short}
+use Rattle.qs_script.specs.audit.tokens.Tokens.{is_digit}
+use Rattle.qs_script.proofs.tokens.Lexemes.{front_digits, run_passes, digits_too_long, digits_short}
 use Rattle.qs_script.proofs.tokens.lex.front_number.Goals as goal
 
 pub returns-then-digits-gt-MOST_DIGITS-clause-exact : goal.returns-then-digits-gt-MOST_DIGITS-clause-exact
@@ -8,7 +9,7 @@ returns-then-digits-gt-MOST_DIGITS-clause-exact c =
     ∙ digits_too_long c.split_at.result.0.now c.split_at.result.1.now (omega arith)
 
 pub number_of-requires-clause-digits : goal.number_of-requires-clause-digits
-number_of-requires-clause-digits c = front_passes c.args.text.now _ c.run_end.result c.run_end.ensures.run c.split_at.ensures.front
+number_of-requires-clause-digits c = rw (c.split_at.ensures.front, c.run_end.ensures.run) (run_passes is_digit c.args.text.now)
 
 pub returns-clause-exact : goal.returns-clause-exact
 returns-clause-exact c =

@@ -1,9 +1,0 @@
-use Rattle.std.proofs.Common.{arith}
-use Rattle.qs_script.proofs.tokens.Powers.{ten_mono}
-use Rattle.qs_script.proofs.tokens.lex.leading_number.Goals as goal
-
-pub overflow_mul-value : goal.overflow_mul-value
-overflow_mul-value c = omega (arith, ten_mono c.loop-i.i 18 (omega arith))
-
-pub overflow_add-value : goal.overflow_add-value
-overflow_add-value c = omega (arith, ten_mono c.loop-i.i 18 (omega arith))
