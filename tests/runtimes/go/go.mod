@@ -1,0 +1,3 @@
+module runtime_of_separate_blocks
+
+go 1.19
