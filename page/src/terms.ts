@@ -105,7 +105,9 @@ export const TERMS: Record<string, Term> = {
   },
   limit: {
     name: "Limit",
-    says: "How many states between blocks a search may look at. Where there are more, it stops without an answer.",
+    says:
+      "How many states between blocks a search may look at, one for a claim too. " +
+      "Where there are more, it stops without an answer.",
   },
   claim: {
     name: "Claim",
